@@ -83,10 +83,10 @@ fn serve_connections<S: Alter>(
     Outcome::Done
 }
 
-/// The work of serving connections on a port of 127.0.0.1.
+/// The work of serving connections that come to a port, or may not come to it.
 #[derive(Drop)]
 struct ServeWork {
-    port: u16,
+    listener: io::Result<TcpListener>,
     count: u32,
     outcome: Outcome,
 }
@@ -103,8 +103,8 @@ impl ServeWork {
         let Ok(routes) = Routes::new(rt.alloc()) else {
             return Outcome::Fault(OpenFault::NoMemory);
         };
-        match TcpListener::bind(rt, SocketAddrV4::new(Ipv4Addr::LOCALHOST, self.port)) {
-            Ok(listener) => serve_connections(rt, &routes, bureau, &listener, self.count),
+        match &self.listener {
+            Ok(listener) => serve_connections(rt, &routes, bureau, listener, self.count),
             Err(_) => Outcome::Device,
         }
     }
@@ -124,7 +124,9 @@ impl Work for ServeWork {
 }
 
 /// Serves this number of connections from the bureau's file at a path, on a port of 127.0.0.1, one
-/// after the other, with one request each.
+/// after the other, with one request each. The port is bound before the file is opened, which takes
+/// seconds for a large one: so customers wait, and are not refused. Where both fail, the file's
+/// fault is told.
 pub fn serve<S: Start>(
     rt: &HostRuntime,
     path: &str,
@@ -135,8 +137,9 @@ pub fn serve<S: Start>(
     ensures { HasEndedFrom (image_at S.Start) result (result.work ≡ Outcome.Done)
         (TellsServe result.work) }
 {
+    let address = SocketAddrV4::new(Ipv4Addr::LOCALHOST, port);
     let mut work = ServeWork {
-        port,
+        listener: TcpListener::bind(rt, address),
         count,
         outcome: Outcome::Done,
     };

@@ -171,12 +171,12 @@ question_shown s line question.Cards = cards_shown s.machine.works.units.punch.c
 question_shown s line question.Lines = rendered (lines_of s.machine)
 question_shown s line question.Help = help_text
 
--- a session after a line that says this: only an action changes it
+-- a session after a line with this command: only an action changes it
 abbrev pub next : SessionState → Command → SessionState
 next s (say.Do action) = done s action
 next s other = s
 
--- what a session prints for a line that says this
+-- what a session prints for a line with this command
 abbrev pub printed : SessionState → List ℕ → Command → List ℕ
 printed s line say.Nothing = []
 printed s line say.Unknown = codes "no such line; help lists them\n"

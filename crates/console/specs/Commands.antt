@@ -1,4 +1,4 @@
--- what a line says
+-- the command of a line
 use Rattle.std.specs.Prelude.{ℕ, ◌≡◌, Bool, true, false, if◌then◌else◌, List, Option, Some, None, Result, Ok, Err}
 use Rattle.run_traces.specs.Names.{Named}
 use Rattle.units.specs.declared.switches.Switches.{Switches}
@@ -48,27 +48,27 @@ abbrev pub with : {A : Type 0} → (A → Command) → Result A Command → Comm
 with make (Ok value) = make value
 with make (Err other) = other
 
--- what a line says that has its verb alone
+-- the command of a line that has its verb alone
 abbrev pub alone : ParsedLine → Command → Command
 alone parsed command = if parsed.first.given then say.Unknown else command
 
--- what a line `watch` says: the position to be watched, or none
+-- the command of a line `watch`: the position to be watched, or none
 abbrev pub watch_command : ParsedLine → Command
 watch_command parsed = if parsed.first.given
     then with (λ value. say.Do (action.Watch value)) (address_in parsed) else say.Do action.Unwatch
 
--- what a line `dump` says with two addresses
+-- the command of a line `dump` with two addresses
 abbrev pub rows_command : Option ℕ → Option ℕ → Command
 rows_command (Some first) (Some last) = say.Ask (question.Dump (Some first) (Some last))
 rows_command first last = say.Wrong fault.Address
 
--- what a line `dump` says: all rows, or those between two addresses
+-- the command of a line `dump`: all rows, or those between two addresses
 abbrev pub dump_command : ParsedLine → Command
 dump_command parsed = if parsed.second.given
     then rows_command (address_of parsed.first) (address_of parsed.second)
     else (if parsed.first.given then say.Wrong fault.Address else say.Ask (question.Dump None None))
 
--- what a line says with this verb
+-- the command of a line with this verb
 abbrev pub command_with : Verb → ParsedLine → Command
 command_with verb.Step parsed = with (λ value. say.Do (action.Step value)) (count_in parsed 1)
 command_with verb.Go parsed = with (λ value. say.Do (action.Go value)) (count_in parsed most_asked)
@@ -86,7 +86,7 @@ command_with verb.Back parsed = with (λ value. say.Do (action.Back value)) (cou
 command_with verb.Help parsed = alone parsed (say.Ask question.Help)
 command_with verb.End parsed = alone parsed say.End
 
--- what a line says, by its verb
+-- the command of a line, by its verb
 abbrev pub command_by : Option Verb → ParsedLine → Command
 command_by None parsed = say.Unknown
 command_by (Some verb) parsed = if parsed.long then say.Unknown else command_with verb parsed
@@ -105,6 +105,6 @@ abbrev pub is_start : Command → Bool
 is_start (say.Do (action.Start switches)) = true
 is_start other = false
 
--- this is what a line says
+-- this is the command of a line
 abbrev pub IsCommand : Option Named → List ℕ → Command → Type 0
 IsCommand names line command = (parsed : ParsedLine) × IsParsedOf names line parsed × (command ≡ command_of parsed)

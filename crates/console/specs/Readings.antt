@@ -3,7 +3,7 @@ use Rattle.std.specs.Prelude.{ℕ, ◌≡◌, ◌≤◌, ◌<◌, nat_lt, List, 
 use Rattle.core_store.specs.Storage.{largest_size}
 use Rattle.texts.specs.Switches.{AreSwitchesOf}
 use Rattle.units.specs.declared.switches.Switches.{Switches}
-use Rattle.run_traces.specs.Addresses.{IsSaid}
+use Rattle.run_traces.specs.Addresses.{NamesPosition}
 use Rattle.run_traces.specs.Names.{Named}
 use Rattle.console.specs.Words.{first_word, from_fourth, second_word, text_of, third_word}
 use Rattle.console.specs.Verbs.{IsVerbOf}
@@ -22,10 +22,10 @@ IsCountOf text count = (0 < count) × (count ≤ most_asked) × (text ≡ decima
 abbrev pub IsPositionOf : List ℕ → ℕ → Type 0
 IsPositionOf text position = (position < largest_size) × (text ≡ decimal position)
 
--- a text says this address by the names of the source, where there are names
-abbrev pub SaysAddress : Option Named → List ℕ → ℕ → Type 0
-SaysAddress None text address = ⊥
-SaysAddress (Some names) text address = IsSaid names.slots text address
+-- a text names this address by the names of the source, where there are names
+abbrev pub NamesAddress : Option Named → List ℕ → ℕ → Type 0
+NamesAddress None text address = ⊥
+NamesAddress (Some names) text address = NamesPosition names.slots text address
 
 -- what a text may be, each where it is that: a count, a position, an address by its name, and
 -- switches
@@ -36,8 +36,8 @@ pub record IsReadingOf (names : Option Named) (word : List ℕ) (reading : Readi
   pub position : MatchOption reading.position
       ((position : ℕ) → ¬ IsPositionOf (text_of word) position) (IsPositionOf (text_of word))
   pub named : MatchOption reading.named
-      ((address : ℕ) → ¬ SaysAddress names (text_of word) address)
-      (SaysAddress names (text_of word))
+      ((address : ℕ) → ¬ NamesAddress names (text_of word) address)
+      (NamesAddress names (text_of word))
   pub switches : MatchOption reading.switches
       ((switches : Switches) → ¬ AreSwitchesOf (text_of word) switches)
       (AreSwitchesOf (text_of word))

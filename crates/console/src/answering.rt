@@ -122,7 +122,7 @@ fn act(
     }
 }
 
-/// Does what a line says, and adds what is printed for it.
+/// Carries out the command of a line, and adds what is printed for it.
 fn take(
     alloc: Global,
     text: &mut Vec<u8>,

@@ -60,7 +60,7 @@ pub(crate) enum Question {
     Help,
 }
 
-/// What a line says.
+/// The command of a line.
 #[derive(Clone, Copy)]
 pub(crate) enum Command {
     /// It has no word.
@@ -113,7 +113,7 @@ fn switches_in(parsed: &ParsedLine) -> Result<Switches, Command>
         .ok_or(Command::Wrong(Fault::Switching))
 }
 
-/// What a line says that has its verb alone.
+/// The command of a line that has its verb alone.
 fn if_alone(parsed: &ParsedLine, command: Command) -> Command
     ensures { result ≡ alone parsed.now command }
 {
@@ -158,7 +158,8 @@ fn dump_command(parsed: &ParsedLine) -> Command
     Command::Ask(Question::Dump(None, None))
 }
 
-/// What a line says with this verb; where a value is none or there are too many, that is the error.
+/// The command of a line with this verb; where a value is none or there are too many, that is
+/// the error.
 fn command_with(verb: Verb, parsed: &ParsedLine) -> Result<Command, Command>
     ensures command { IfOk result (λ command. command ≡ command_with verb parsed.now) }
     ensures wrong { IfErr result (λ command. command ≡ command_with verb parsed.now) }
@@ -201,7 +202,7 @@ fn command_of(parsed: &ParsedLine) -> Command
 }
 
 impl Command {
-    /// What a line says.
+    /// The command of a line.
     pub(crate) fn of(
         alloc: Global,
         names: Option<&Names>,

@@ -3,7 +3,7 @@
 ghost use Rattle.std.specs.Prelude.{◌≡◌, ◌<◌, ℕ, MatchOption, option_copied, IfOk};
 ghost use Rattle.core_store.specs.Storage.{largest_size};
 ghost use Rattle.console.specs.Commands.{address_of};
-ghost use Rattle.console.specs.Readings.{IsCountOf, IsParsedOf, IsPositionOf, IsReadingOf, SaysAddress};
+ghost use Rattle.console.specs.Readings.{IsCountOf, IsParsedOf, IsPositionOf, IsReadingOf, NamesAddress};
 
 use crate::verbs::Verb;
 use crate::words::{Words, text_of};
@@ -76,15 +76,15 @@ fn position_of(text: &str) -> Option<u16>
     Some(number as u16)
 }
 
-/// The address that a text says by the names of the source.
+/// The address that a text names by the names of the source.
 fn find_address(alloc: Global, names: Option<&Names>, text: &str) -> Result<Option<u16>, AllocError>
     ensures { IfOk result (λ found. MatchOption found
-        ((address : ℕ) → ¬ SaysAddress (option_copied names.entry) text.now address)
-        (SaysAddress (option_copied names.entry) text.now)) }
+        ((address : ℕ) → ¬ NamesAddress (option_copied names.entry) text.now address)
+        (NamesAddress (option_copied names.entry) text.now)) }
 {
     match names {
         None => Ok(None),
-        Some(names) => names.position_said(alloc, text),
+        Some(names) => names.position_named(alloc, text),
     }
 }
 

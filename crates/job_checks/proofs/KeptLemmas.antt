@@ -157,7 +157,7 @@ module _ {Y : Type 0} (row : List ℕ → ℕ → ℕ → Y → Row) (begins : B
 -- ---- whose a row is
 
 -- what is among the things of a list is so after a map
-contains : {X Y : Type 0} (f : X → Y) (xs : List X) (x : X) → IsAmong x xs → Contains (map f xs) (f x)
+pub contains : {X Y : Type 0} (f : X → Y) (xs : List X) (x : X) → IsAmong x xs → Contains (map f xs) (f x)
 contains f [] x among = absurd among
 contains f (y ∷ xs) x (inl is) = (zero, omega arith, ap f (sym is))
 contains f (y ∷ xs) x (inr more) = let it = contains f xs x more in (suc it.0, omega (arith, it.1), it.2)

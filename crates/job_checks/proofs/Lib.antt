@@ -21,3 +21,6 @@ pub mod RisingLemmas
 pub mod KeptLemmas
 pub mod KeptRows
 pub mod ExactLemmas
+pub mod KeyLemmas
+pub mod OwnerLaw
+pub mod NameLaw

@@ -28,7 +28,7 @@ pub all_pass : (params : Row) (rows : List Row) → filter (passes [] params) ro
 all_pass params [] = refl
 all_pass params (r ∷ rows) = ap (λ xs. r ∷ xs) (all_pass params rows)
 
-int_of : (v : Value) → IsTrue (is_int v) → (n : ℤ) × (v ≡ Int n)
+pub int_of : (v : Value) → IsTrue (is_int v) → (n : ℤ) × (v ≡ Int n)
 int_of Null is = absurd (true≢false (sym is))
 int_of (Int n) is = (n, refl)
 int_of (Real x) is = absurd (true≢false (sym is))

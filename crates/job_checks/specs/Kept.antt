@@ -14,6 +14,7 @@ use Rattle.office.specs.declared.stretches.Stretch.{Stretch}
 use Rattle.ledger_rows.specs.Columns.{line_cells, profile_row, state_row}
 use Rattle.ledger_rows.specs.Pockets.{pocket_cell, punched_bytes}
 use Rattle.sqlite.specs.Order.{Row, column}
+use Rattle.sqlite.specs.Tree.{IsAscending}
 use Rattle.sqlite.specs.declared.types.Value.TheVariants.{Int}
 use Rattle.ledger_tables.specs.Schema.{own_version}
 use Rattle.ledger_tables.specs.Cells.{unless_blank}
@@ -83,6 +84,10 @@ pub record IsKept (all : AllRows) (e : Entry) : Type 0 where
 abbrev pub IsOwned : List Row → Row → Type 0
 IsOwned jobs it = (job : Row) × Contains jobs job
     × (column job 0 ≡ column it 0) × (column job 1 ≡ column it 1)
+
+-- no two of these rows begin with the same customer and the same number
+abbrev pub AreNamedApart : List Row → Type 0
+AreNamedApart = IsAscending (λ a b. ¬ ((column a 0 ≡ column b 0) × (column a 1 ≡ column b 1)))
 
 -- each row of the other tables names a job
 pub record AreOwned (all : AllRows) : Type 0 where

@@ -10,6 +10,10 @@
 //! an office whose jobs have names that jobs may have, and then it tells of each of its jobs
 //! (`specs/Checks.antt`). Nothing is written: after a check a crash leaves nothing that it might not
 //! have left before.
+//!
+//! Two laws say what the rules of a bureau's schema give of its rows: each row of the other tables
+//! names a job ([`rows_name_jobs`]), and no two rows of `jobs` have the same customer and number
+//! ([`jobs_have_names_of_their_own`]).
 #![tactic(auto)]
 
 mod again;
@@ -20,6 +24,7 @@ mod checks;
 mod differences;
 mod following;
 mod jobs;
+mod laws;
 mod machines;
 mod names;
 mod owners;
@@ -36,6 +41,7 @@ pub use cells::{number_at, text_at, value_at};
 pub use checks::{check, find_orphans};
 pub use differences::{Difference, Found, Place};
 pub use jobs::run_job;
+pub use laws::{jobs_have_names_of_their_own, rows_name_jobs};
 pub use reading::read_rows;
 pub use report_lines::{job_text, orphans_text, push_summary, report_text};
 pub use reports::{JobReport, Orphan, Outcome, Report, Table};

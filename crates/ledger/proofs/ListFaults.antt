@@ -1,5 +1,5 @@
 -- Why a part of a job or a list of jobs is not told: its rows can be read, so the database failed.
-use Rattle.std.proofs.Common.{◌≡◌, ◌==◌, ◌+◌, ◌<◌, ◌≤◌, ◌^◌, ℕ, Bool, true, false, not, bytes_eq, List, [], ◌∷◌, length, map, Option, Some, IsTrue, refl, sym, ap, subst, arith}
+use Rattle.std.proofs.Common.{◌≡◌, ◌==◌, ◌+◌, ◌<◌, ◌≤◌, ◌^◌, ℕ, Bool, true, false, bytes_eq, IsUtf8, List, [], ◌∷◌, length, map, Option, Some, IsTrue, refl, sym, ap, subst, arith}
 use Rattle.std.specs.List.{AllByRecursion}
 use Rattle.std.specs.Option.{option_map, option_to_list}
 use Rattle.std.proofs.lemmas.Bool.Decides.{nat_tests}
@@ -15,7 +15,7 @@ use Rattle.units.specs.declared.printer.Line.{Line}
 use Rattle.units.specs.declared.punch.Punched.{Punched}
 use Rattle.units.specs.declared.units.Counts.{Counts}
 use Rattle.office.specs.Jobs.{Job, picture, IsJob}
-use Rattle.office.specs.Office.{Entry, Office, by_name, by_number, free_jobs, own}
+use Rattle.office.specs.Office.{Entry, Office, by_number, own, runs}
 use Rattle.bcd.specs.Orders.{in_order}
 use Rattle.sqlite.specs.Order.{Row}
 use Rattle.sqlite.specs.State.{State, HasCleanDisk, Survives}
@@ -23,15 +23,15 @@ use Rattle.sqlite.proofs.StateLemmas.{survives_then}
 use Rattle.ledger_rows.specs.Columns.{line_cells, state_row}
 use Rattle.ledger_rows.specs.Pockets.{pocket_cell, pocket_rows_from}
 use Rattle.ledger_rows.specs.Progress.{progress_of}
-use Rattle.ledger_tables.specs.Listed.{name_row, names_of, names_queued, progress_row, queued_name}
+use Rattle.ledger_tables.specs.Listed.{HaveNames, name_row, names_of, progress_row}
 use Rattle.ledger_tables.specs.Named.{HavePocketNumbers}
 use Rattle.ledger_tables.specs.Reading.{AreReadable, CanRead}
-use Rattle.ledger_tables.specs.Shown.{shown_line, shown_name, shown_progress, shown_queued}
+use Rattle.ledger_tables.specs.Shown.{shown_line, shown_name, shown_progress}
 use Rattle.ledger_tables.specs.Steps.{HasFailed}
 use Rattle.ledger.specs.Listed.{AreListable, CanBeListed}
-use Rattle.ledger.specs.Standing.{lines_of, named, pockets_of, state_of}
-use Rattle.bcd.proofs.Orders.{all_ordered}
-use Rattle.ledger.proofs.ListLemmas.{all_filtered, free_told, names_told}
+use Rattle.ledger.specs.Standing.{lines_of, named, pockets_of, state_of, tables_of}
+use Rattle.bcd.proofs.Orders.{all_ordered, all_weaker}
+use Rattle.ledger.proofs.ListLemmas.{all_filtered, each_running, names_told}
 use Rattle.ledger.proofs.ReadFaults.{failed_later, failed_unless, standing_fits, truth_fits}
 use Rattle.ledger.proofs.ReadingLemmas.{picture_before, picture_deck}
 
@@ -141,9 +141,7 @@ names_read customer office all =
     subst (CanRead shown_name) (sym (names_told customer office))
     (each_read shown_name (λ (e : Entry). name_row (named e)) CanBeListed (in_order by_number (own customer office)) (λ e can. (can.1, (truth_fits e.job.held, (truth_fits e.job.collected, tt)))) (all_ordered by_number CanBeListed (own customer office) his))
 
--- the rows of the queue can be read
-pub queue_read : (office : Office) → AreListable office → CanRead shown_queued (names_queued (map named office))
-queue_read office all =
-    let free = all_filtered CanBeListed CanBeListed (λ e. not e.job.held) (λ e can _. can) office all in
-    subst (CanRead shown_queued) (sym (free_told office))
-    (each_read shown_queued (λ (e : Entry). queued_name (named e)) CanBeListed (in_order by_name (free_jobs office)) (λ e can. (can.0, (can.1, tt))) (all_ordered by_name CanBeListed (free_jobs office) free))
+-- the names of the jobs that run can be read
+pub running_read : (office : Office) → AreListable office → HaveNames (tables_of office)
+running_read office all =
+    each_running (λ customer number. IsUtf8 customer × (number < 2 ^ 32)) office (all_weaker CanBeListed (λ (e : Entry). runs e ≡ true → IsUtf8 e.customer × (e.number < 2 ^ 32)) (λ e can _. can) office all)

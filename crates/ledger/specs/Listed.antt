@@ -1,7 +1,7 @@
 -- what is read from the tables for the lists of jobs
-use Rattle.std.specs.Prelude.{◌≡◌, ◌<◌, ◌^◌, ℕ, List, [], ◌∷◌, ◌++◌, map, filter, Some, IsUtf8}
+use Rattle.std.specs.Prelude.{◌≡◌, ◌<◌, ◌^◌, ℕ, List, [], ◌∷◌, ◌++◌, map, Some, IsUtf8}
 use Rattle.std.specs.List.{AllByRecursion}
-use Rattle.office.specs.Office.{Entry, Office, job_of, job_line, jobs_listed, queued_job, queue_listed, runs}
+use Rattle.office.specs.Office.{Entry, Office, free_jobs, job_of, job_line, jobs_listed, queued_job, queue_listed}
 use Rattle.office.specs.Queued.{QueuedJob}
 use Rattle.office.specs.declared.lists.JobLine.{JobLine}
 use Rattle.office.specs.declared.replies.Reply.{Reply}
@@ -46,18 +46,17 @@ with_jobs_told customer office = (office, reply.Jobs (jobs_listed customer offic
 abbrev pub IsIts : Office → Entry → Type 0
 IsIts office e = job_of e.customer e.number office ≡ Some e.job
 
--- if the row is that of a job of the office, the queue has this job added if its machine is running
+-- if the row is that of a job of the office, the queue has this job added unless it is held
 abbrev pub IsQueued : QueuedName → Office → List QueuedJob → List QueuedJob → Type 0
 IsQueued row office old new =
     (e : Entry) → row ≡ queued_name (named e) → IsIts office e
-    → new ≡ old ++ map queued_job (filter runs (e ∷ []))
+    → new ≡ old ++ map queued_job (free_jobs (e ∷ []))
 
--- if the rows are those of jobs of the office, the queue has those of them whose machines are
--- running
+-- if the rows are those of jobs of the office, the queue has those of them that are not held
 abbrev pub AreQueued : List QueuedName → Office → List QueuedJob → Type 0
 AreQueued rows office found =
     (entries : Office) → rows ≡ map (λ e. queued_name (named e)) entries
-    → AllByRecursion (IsIts office) entries → found ≡ map queued_job (filter runs entries)
+    → AllByRecursion (IsIts office) entries → found ≡ map queued_job (free_jobs entries)
 
 -- the office, unchanged, and the reply with the queue
 abbrev pub with_queue_told : Office → Office × Reply

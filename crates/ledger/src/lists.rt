@@ -10,6 +10,7 @@ ghost use Rattle.ledger.specs.Listed.{AreListable, IsHis, HasLine, HasLines, IsI
 ghost use Rattle.ledger.specs.Standing.{named};
 ghost use Rattle.ledger.specs.Steps.{FindsIn, FailsWhere, Serves};
 
+use crate::reading::stored;
 use crate::summaries::find_standing;
 use ledger_rows::read_truth;
 use ledger_tables::{Fault, NameRow, OpenTables, QueuedRow};
@@ -82,8 +83,8 @@ pub fn list_jobs<S: Alter>(
     Ok(Reply::Jobs(JobList(lines)))
 }
 
-/// Adds the job of this row to the queue, if its machine is running.
-fn queue_running<S: Alter>(
+/// Adds the job of this row to the queue, unless it is held.
+fn queue_free<S: Alter>(
     tables: &mut OpenTables<'_, '_, S>,
     row: &QueuedRow,
     queue: &mut Vec<QueueLine>,
@@ -98,7 +99,10 @@ fn queue_running<S: Alter>(
         customer: row.customer.as_str(),
         number: row.number,
     };
-    if !find_standing(tables, name)?.goes_on() {
+    let found = tables.find_loaded(name)?;
+    let job = stored(found)?;
+    let held = stored(read_truth(job.held))?;
+    if held {
         return Ok(());
     }
     let customer = String::from_str(tables.alloc, row.customer.as_str())?;
@@ -110,7 +114,7 @@ fn queue_running<S: Alter>(
     Ok(())
 }
 
-/// The jobs of these rows whose machines are running.
+/// The jobs of these rows that are not held.
 fn find_queue<S: Alter>(
     tables: &mut OpenTables<'_, '_, S>,
     rows: &[QueuedRow],
@@ -125,7 +129,7 @@ fn find_queue<S: Alter>(
 {
     let mut queue = Vec::new(tables.alloc);
     for row in rows {
-        queue_running(tables, row, &mut queue)?;
+        queue_free(tables, row, &mut queue)?;
     }
     Ok(queue)
 }
@@ -136,7 +140,7 @@ pub fn list_queue<S: Alter>(tables: &mut OpenTables<'_, '_, S>) -> Result<Reply,
     ensures done { Serves S.Store tables.old tables.new result with_queue_told }
     ensures failed { FailsWhere S.Store tables.old tables.new result AreListable }
 {
-    let rows = tables.queued_names()?;
+    let rows = tables.running_names()?;
     let queue = find_queue(tables, rows.as_slice())?;
     Ok(Reply::Queue(QueueList(queue)))
 }

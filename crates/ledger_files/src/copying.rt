@@ -112,8 +112,11 @@ fn copy_beside<C: Comparison>(
     }
 }
 
-/// Opens a copy as a bureau, and closes it, so that all of it is in its one file.
+/// Opens a copy that has a log as a bureau, and closes it, so that all of it is in its one file.
 fn settle(rt: &HostRuntime, part: &Place) -> Result<(), OpenFault> {
+    if part.log_length(rt).is_none() {
+        return Ok(());
+    }
     let bureau = match open_from(rt, &part.file, Unknown) {
         Ok(bureau) => bureau,
         Err((fault, _kept)) => return Err(fault),

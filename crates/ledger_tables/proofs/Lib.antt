@@ -26,5 +26,6 @@ pub mod OpeningAnswers
 pub mod PageTables
 pub mod PageLookups
 pub mod PageClears
+pub mod RunningLookups
 pub mod RaisingTables
 pub mod ProfileTables

@@ -32,7 +32,7 @@ use Rattle.ledger_tables.proofs.UpdateRows.{key_yes}
 
 -- ---- what a row holds
 
-abbrev nat_in : Value → ℕ
+abbrev pub nat_in : Value → ℕ
 nat_in (Int (pos n)) = n
 nat_in _ = 0
 
@@ -45,7 +45,7 @@ shown_columns = 2 ∷ 3 ∷ []
 
 -- ---- lists
 
-each_k : {X : Type 0} (Q : ℕ → X → Type 0) (xs : List X) → ((k : ℕ) → AllByRecursion (Q k) xs) → AllByRecursion (λ x. (k : ℕ) → Q k x) xs
+pub each_k : {K X : Type 0} (Q : K → X → Type 0) (xs : List X) → ((k : K) → AllByRecursion (Q k) xs) → AllByRecursion (λ x. (k : K) → Q k x) xs
 each_k Q [] all = tt
 each_k Q (x ∷ xs) all = (λ k. (all k).0, each_k Q xs (λ k. (all k).1))
 
@@ -61,7 +61,7 @@ contains_later : {X : Type 0} (x y : X) (xs : List X) → Contains xs y → Cont
 contains_later x y xs h = (suc h.0, omega (arith, h.1), h.2)
 
 -- what passes one test alone passes another too, and is among those
-among : {X : Type 0} (p q : X → Bool) (it : X) (xs : List X) → q it ≡ true → filter p xs ≡ it ∷ [] → Contains (filter q xs) it
+pub among : {X : Type 0} (p q : X → Bool) (it : X) (xs : List X) → q it ≡ true → filter p xs ≡ it ∷ [] → Contains (filter q xs) it
 among p q it [] passes one = absurd (let e = one in cc)
 among p q it (x ∷ xs) passes one = go (p x) refl (q x) refl (among p q it xs passes)
   where
@@ -77,7 +77,7 @@ among p q it (x ∷ xs) passes one = go (p x) refl (q x) refl (among p q it xs p
     go false this true that rest = rw that (contains_later x it (filter q xs) (rest (rw this at one)))
     go false this false that rest = rw that (rest (rw this at one))
 
-contains_map : {X Y : Type 0} (f : X → Y) (xs : List X) (x : X) → Contains xs x → Contains (map f xs) (f x)
+pub contains_map : {X Y : Type 0} (f : X → Y) (xs : List X) (x : X) → Contains xs x → Contains (map f xs) (f x)
 contains_map f [] x h = absurd (omega (arith, h.1))
 contains_map f (y ∷ xs) x h = go h.0 h.1 h.2 (contains_map f xs x)
   where

@@ -102,23 +102,6 @@ pub select_names_is : Selects select_names (sorting_query 1 is_customer name_ter
 unfolding understood everything
 select_names_is = ((refl, (refl, refl)), refl)
 
-abbrev pub select_queued : List ℕ
-select_queued = codes "SELECT customer, number FROM jobs WHERE held = 0 ORDER BY customer, number"
-
--- the row's job is not held
-abbrev pub is_free : List Term
-is_free = op2 (Compare Eq Binary) (col 1 7) (lit (Int (pos 0))) ∷ []
-
-abbrev pub queued_terms : List Term
-queued_terms = col 1 1 ∷ col 1 2 ∷ []
-
-abbrev pub by_name : List (Term × Key)
-by_name = (col 1 1, ascending Binary) ∷ (col 1 2, ascending Binary) ∷ []
-
-pub select_queued_is : Selects select_queued (sorting_query 1 is_free queued_terms by_name) (codes "customer" ∷ codes "number" ∷ [])
-unfolding understood everything
-select_queued_is = ((refl, (refl, refl)), refl)
-
 abbrev pub update_flags : List ℕ
 update_flags = codes "UPDATE jobs SET held = ?3, collected = ?4 WHERE customer = ?1 AND number = ?2"
 
@@ -173,6 +156,23 @@ progress_terms = col 1 3 ∷ col 1 13 ∷ col 1 14 ∷ col 1 15 ∷ []
 pub select_progress_is : Selects select_progress (plain_query 11 is_key progress_terms) (codes "i" ∷ codes "cards" ∷ codes "lines" ∷ codes "standing" ∷ [])
 unfolding understood everything
 select_progress_is = ((refl, (refl, refl)), refl)
+
+abbrev pub select_running : List ℕ
+select_running = codes "SELECT customer, number FROM states WHERE standing = 0 ORDER BY customer, number"
+
+-- the row's machine is running
+abbrev pub is_running : List Term
+is_running = op2 (Compare Eq Binary) (col 1 15) (lit (Int (pos 0))) ∷ []
+
+abbrev pub queued_terms : List Term
+queued_terms = col 1 1 ∷ col 1 2 ∷ []
+
+abbrev pub by_name : List (Term × Key)
+by_name = (col 1 1, ascending Binary) ∷ (col 1 2, ascending Binary) ∷ []
+
+pub select_running_is : Selects select_running (sorting_query 11 is_running queued_terms by_name) (codes "customer" ∷ codes "number" ∷ [])
+unfolding understood everything
+select_running_is = ((refl, (refl, refl)), refl)
 
 abbrev pub update_state : List ℕ
 update_state = codes "UPDATE states SET i = ?3, a = ?4, b = ?5, compare = ?6, overflow = ?7, channel = ?8, waiting = ?9, form = ?10, line = ?11, taken = ?12, cards = ?13, lines = ?14, standing = ?15 WHERE customer = ?1 AND number = ?2"

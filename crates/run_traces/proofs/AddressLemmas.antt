@@ -6,7 +6,7 @@ use Rattle.bcd.specs.Table.{glyph_of}
 use Rattle.bcd.proofs.Tables.{glyphs_differ}
 use Rattle.autocoder.specs.Listing.{glyphs_of}
 use Rattle.autocoder_layout.specs.declared.slots.Slot.{Slot}
-use Rattle.run_traces.specs.Addresses.{IsSaid, position_said}
+use Rattle.run_traces.specs.Addresses.{NamesPosition, position_named}
 
 -- a text with a byte that is no character's glyph is not the glyphs of characters
 pub no_glyph : (text codes : List ℕ) (place glyph : ℕ) → place < length text → glyph ≡ get_or text place 0
@@ -28,13 +28,13 @@ one_text xs ys all others same =
     (All-get_or (λ code. code < 64) ys i 0 inside others)
     (sym (get_or-map glyph_of xs i 0 0 within) ∙ ap (λ t. get_or t i 0) same ∙ get_or-map glyph_of ys i 0 0 inside))
 
--- what the characters of a text name is what the text says
-pub said : (slots : List Slot) (text codes : List ℕ) (found : Option ℕ) → length text ≤ 52 → All (λ code. code < 64) codes
-    → text ≡ glyphs_of codes → found ≡ position_said slots codes
-    → MatchOption found ((position : ℕ) → ¬ IsSaid slots text position) (IsSaid slots text)
-said slots text codes None short all is found = λ position it.
+-- what the characters of a text name is what the text names
+pub is_named : (slots : List Slot) (text codes : List ℕ) (found : Option ℕ) → length text ≤ 52 → All (λ code. code < 64) codes
+    → text ≡ glyphs_of codes → found ≡ position_named slots codes
+    → MatchOption found ((position : ℕ) → ¬ NamesPosition slots text position) (NamesPosition slots text)
+is_named slots text codes None short all is found = λ position it.
     let same : it.characters ≡ codes = one_text it.characters codes it.are_characters all (sym it.text_is ∙ is) in
-    absurd (let e : None ≡ Some position = found ∙ ap (position_said slots) (sym same) ∙ it.named in cc)
-said slots text codes (Some position) short all is found =
+    absurd (let e : None ≡ Some position = found ∙ ap (position_named slots) (sym same) ∙ it.named in cc)
+is_named slots text codes (Some position) short all is found =
     let long : length text ≡ length codes = ap length is ∙ length-map codes glyph_of in
     record { characters = codes; short = omega (arith, long); are_characters = all; text_is = is; named = sym found }

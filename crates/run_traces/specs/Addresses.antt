@@ -1,4 +1,4 @@
--- the addresses that texts say
+-- the positions that texts name
 use Rattle.std.specs.Prelude.{ℕ, ◌≡◌, ◌<◌, ◌≤◌, ◌==◌, if◌then◌else◌, List, length, All, Option, Some, None, option_and_then}
 use Rattle.addresses.specs.declared.tagged.IndexLocation.{IndexLocation}
 use Rattle.autocoder.specs.Listing.{glyphs_of}
@@ -22,16 +22,16 @@ position_by slots address (Some index) = None
 
 -- the position that characters name: they are a number or a name, with a number added or taken
 -- away, and nothing more
-unfoldable pub position_said : List Slot → List ℕ → Option ℕ
-position_said slots text = option_and_then
+unfoldable pub position_named : List Slot → List ℕ → Option ℕ
+position_named slots text = option_and_then
     (λ found. if found.1 == length text then position_by slots found.0 found.0.index else None)
     (address text)
 
--- a text says this position: it is the glyphs of characters that name it, of at most 52, as many as
+-- a text names this position: it is the glyphs of characters that name it, of at most 52, as many as
 -- an operand field has
-pub record IsSaid (slots : List Slot) (text : List ℕ) (position : ℕ) : Type 0 where
+pub record NamesPosition (slots : List Slot) (text : List ℕ) (position : ℕ) : Type 0 where
   pub characters : List ℕ
   pub short : length characters ≤ 52
   pub are_characters : All (λ code. code < 64) characters
   pub text_is : text ≡ glyphs_of characters
-  pub named : position_said slots characters ≡ Some position
+  pub named : position_named slots characters ≡ Some position

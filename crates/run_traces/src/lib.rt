@@ -19,7 +19,6 @@
 #![tactic(auto)]
 
 mod accounts;
-mod addresses_said;
 mod attempts;
 mod causes;
 mod counted_cards;
@@ -29,6 +28,7 @@ mod effects;
 mod ends;
 mod fields;
 mod laws;
+mod named_positions;
 mod names;
 mod profiling;
 mod reports;

@@ -44,6 +44,6 @@ pub use pockets::Pocket;
 pub use printer::{LINE_LENGTH, Line, MOST_LINES, Printer, print_line};
 pub use profiles::Profile;
 pub use punch::{MOST_CARDS, Punch, Punched, choose_pocket, punch_card};
-pub use reader::{Hopper, put_card, read_card};
+pub use reader::{Hopper, put_card};
 pub use switches::Switches;
 pub use units::{Counts, Units};

@@ -1,14 +1,13 @@
 //! The card reader.
 
-ghost use Rattle.std.specs.Prelude.{◌≡◌, ◌==◌, ◌<◌, ◌≤◌, false, length, Ok, Err};
-ghost use Rattle.core_store.specs.Doing.{Does};
+ghost use Rattle.std.specs.Prelude.{◌≡◌, ◌==◌, ◌<◌, ◌≤◌, false, length, Ok};
 ghost use Rattle.core_store.specs.Storage.{put_codes};
 ghost use Rattle.core_store.specs.declared.checks.Check.TheVariants.{ReaderEmpty};
 ghost use Rattle.units.specs.Units.{read_area_end, card_read, IsStopped};
 
 use crate::areas::{READ_AREA, put_codes};
 use cards::{Card, Deck};
-use core_store::{Check, Core};
+use core_store::Core;
 
 /// The card reader: a deck, and the number of its cards that have been read.
 #[derive(Drop)]
@@ -53,17 +52,4 @@ pub(crate) fn take_card<C: Core>(core: &mut C, hopper: &mut Hopper)
 {
     put_card(core, &hopper.deck.cards()[hopper.taken as usize]);
     hopper.taken += 1;
-}
-
-/// Reads the next card into the read area. READER EMPTY if no card is left.
-#[tactic(auto, unfolding(crate::specs::Units::card_read))]
-pub fn read_card<C: Core>(core: &mut C, hopper: &mut Hopper) -> Result<(), Check>
-    requires { read_area_end ≤ length (C.cells core.old) }
-    ensures { Does result (C.cells core.old) hopper.old (C.cells core.new) hopper.new card_read }
-{
-    if hopper.has_no_card() {
-        return Err(Check::ReaderEmpty);
-    }
-    take_card(core, hopper);
-    Ok(())
 }

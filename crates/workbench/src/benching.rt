@@ -46,7 +46,7 @@ fn address_by<W: Write, E: Write>(
     names: Option<&Names>,
 ) -> Result<u16, Undone> {
     let address = match names {
-        Some(names) => names.position_said(process.alloc(), text)?,
+        Some(names) => names.position_named(process.alloc(), text)?,
         None => address_of(text),
     };
     if let Some(address) = address {

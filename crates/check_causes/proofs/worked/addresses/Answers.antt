@@ -1,4 +1,4 @@
-use Rattle.std.proofs.Common.{◌∙◌, sym, ap, Ok, Err}
+use Rattle.std.proofs.Common.{◌∙◌, sym, ap}
 use Rattle.core_store.specs.Storage.{codes_from}
 use Rattle.check_causes.specs.Worked.{if_read}
 use Rattle.check_causes.proofs.WorkedLemmas.{not_read, is_read}

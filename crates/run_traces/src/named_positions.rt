@@ -1,4 +1,4 @@
-//! The addresses that texts say.
+//! The positions that texts name.
 
 ghost use Rattle.std.specs.Prelude.{◌≡◌, ◌≢◌, ◌<◌, ◌≤◌, ℕ, List, All, None, IfOk, IfSome, length, find, option_copied, MatchOption};
 ghost use Rattle.autocoder.specs.Listing.{glyphs_of};
@@ -6,7 +6,7 @@ ghost use Rattle.autocoder_layout.specs.Names.{address_of, base_number, defines,
 ghost use Rattle.autocoder_statements.specs.declared.expressions.Base.{Base};
 ghost use Rattle.autocoder_statements.specs.Expressions.{address};
 ghost use Rattle.autocoder_statements.specs.Limits.{longest_text};
-ghost use Rattle.run_traces.specs.Addresses.{IsSaid, position_at, position_by, position_said};
+ghost use Rattle.run_traces.specs.Addresses.{NamesPosition, position_at, position_by, position_named};
 
 use crate::names::Names;
 use autocoder_layout::{Slot, Value};
@@ -104,10 +104,10 @@ fn read_address(text: &[Code]) -> Option<(Address, usize)>
 }
 
 /// The position that characters name.
-#[tactic(auto, unfolding(crate::specs::Addresses::position_said))]
-fn position_said(slots: &[Slot], text: &[Code]) -> Option<u16>
+#[tactic(auto, unfolding(crate::specs::Addresses::position_named))]
+fn position_named(slots: &[Slot], text: &[Code]) -> Option<u16>
     requires { length text.now ≤ longest_text }
-    ensures { result ≡ position_said slots.now text.now }
+    ensures { result ≡ position_named slots.now text.now }
 {
     match read_address(text) {
         Some((address, count)) => {
@@ -141,20 +141,20 @@ fn characters_of(alloc: Global, text: &[u8]) -> Result<Option<Vec<Code>>, AllocE
 }
 
 impl Names {
-    /// Returns the position below 16000 that a text says as an operand does: a number or a name of
+    /// Returns the position below 16000 that a text names as an operand does: a number or a name of
     /// the source, with a number added or taken away (`342`, `READ`, `READ&7`, `READ-1`); none if it
-    /// says none. Fails only if there is no memory.
-    pub fn position_said(&self, alloc: Global, text: &str) -> Result<Option<u16>, AllocError>
+    /// names none. Fails only if there is no memory.
+    pub fn position_named(&self, alloc: Global, text: &str) -> Result<Option<u16>, AllocError>
         ensures { IfOk result (λ found. MatchOption found
-            ((position : ℕ) → ¬ IsSaid self.now.slots text.now position)
-            (IsSaid self.now.slots text.now)) }
+            ((position : ℕ) → ¬ NamesPosition self.now.slots text.now position)
+            (NamesPosition self.now.slots text.now)) }
     {
         let bytes = text.as_bytes();
         if bytes.len() > LONGEST_TEXT {
             return Ok(None);
         }
         match characters_of(alloc, bytes)? {
-            Some(codes) => Ok(position_said(self.slots(), &codes)),
+            Some(codes) => Ok(position_named(self.slots(), &codes)),
             None => Ok(None),
         }
     }

@@ -1,6 +1,6 @@
 use Rattle.std.proofs.Common.{◌≡◌, ◌<◌, List, All, take}
 use Rattle.autocoder.specs.Listing.{glyphs_of}
-use Rattle.run_traces.proofs.addresses_said.characters_of.Given as goal
+use Rattle.run_traces.proofs.named_positions.characters_of.Given as goal
 
 abbrev pub invariant-loop-glyph : goal.invariant-loop-glyph
 invariant-loop-glyph l = record {
