@@ -6,5 +6,4 @@ pub mod WordsRead
 pub mod RecordLines
 pub mod RecordLaw
 pub mod Readable
-mod SameRows
 mod CopyLemmas

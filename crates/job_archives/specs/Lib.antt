@@ -4,4 +4,3 @@ pub mod Lists
 pub mod Names
 pub mod Records
 pub mod Copies
-pub mod Tables

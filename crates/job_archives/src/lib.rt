@@ -10,9 +10,9 @@
 //! office that the tables stand for (`specs/Lists.antt`), and what a crash may leave of the store
 //! stands for that office whatever it returns.
 //!
-//! [`compare_rows`] compares a bureau's file with a copy of it: it reads the rows of all tables of the
-//! copy, and tells the first table that is not the same as in the file ([`first_other_table`]). If
-//! there is none, the copy stands for the same office.
+//! [`compare_files`] compares a bureau's file with a copy of it, both of them open: the rows of all tables, those
+//! of one job at a time, and tells a table that is not the same. If there is none, the copy stands for the same
+//! offices.
 #![tactic(auto)]
 
 mod archives;
@@ -22,12 +22,10 @@ mod lines;
 mod listing;
 mod names;
 mod punched;
-mod reading;
 mod records;
 mod rows;
 
 pub use archives::{Archive, ArchivedFile, files_of};
-pub use comparing::first_other_table;
+pub use comparing::{Compared, compare_files};
 pub use laws::{archives_are_read, archives_are_whole};
 pub use listing::list_jobs;
-pub use reading::compare_rows;

@@ -46,6 +46,8 @@ pub(crate) fn read_names<S: Alter>(conn: &mut Connection<S>) -> Result<Vec<Row>,
 pub(crate) fn name_in(row: &Row) -> Result<JobName<'_>, Fault>
     ensures found { IfOk result (λ name. (e : Entry) → row.now ≡ name_row e
         → HasName name.customer.now name.number e) }
+    ensures named { IfOk result (λ name. (column row.now 0 ≡ Text name.customer.now)
+        × (column row.now 1 ≡ Int (pos name.number))) }
     ensures damaged { IfErr result (λ fault. fault ≡ Fault.Store) }
     ensures lawful { (e : Entry) → row.now ≡ name_row e → is_customer e.customer ≡ true
         → is_number e.number ≡ true → IsOk result }

@@ -18,13 +18,12 @@ use Rattle.ledger.specs.Standing.{named, CanBeKept}
 use Rattle.job_checks.specs.Again.{HasResumed, IsLoading}
 use Rattle.job_checks.specs.Jobs.{HasComeTo, HasRunAs, IsNameOf, entry_of, numbers_of, row_of}
 use Rattle.job_checks.specs.Kept.{HasMachine, IsKept, IsNamed, rows_of_stretches}
-use Rattle.job_checks.specs.Tables.{rows_of}
-use Rattle.job_checks.specs.declared.all_rows.AllRows.{AllRows}
+use Rattle.job_checks.specs.Tables.{TableRows, rows_of}
 use Rattle.job_checks.specs.declared.submitted.Numbers.{Numbers}
 
-module _ (all : AllRows) (it : Row) (customer : List ℕ) (number : ℕ) (numbers : Numbers) (deck loaded : List Card) (deck_b loaded_b : List ℕ) (profile : Profile) (stretches : List Stretch) (m : State)
+module _ (all : TableRows) (it : Row) (customer : List ℕ) (number : ℕ) (numbers : Numbers) (deck loaded : List Card) (deck_b loaded_b : List ℕ) (profile : Profile) (stretches : List Stretch) (m : State)
     (loading : IsLoading numbers.kind deck loaded) (deck_is : deck_b ≡ deck_bytes deck) (loaded_is : loaded_b ≡ deck_bytes loaded) (row : it ≡ row_of customer number numbers deck_b loaded_b)
-    (has_stretches : rows_of customer number all.stretches.items ≡ rows_of_stretches customer number stretches) (went : HasResumed (run.loaded loaded numbers.size all_off profile) stretches m)
+    (has_stretches : rows_of customer number all.stretches ≡ rows_of_stretches customer number stretches) (went : HasResumed (run.loaded loaded numbers.size all_off profile) stretches m)
     (machine : HasMachine customer number all m) (cards : All IsPunched m.works.units.punch.cards) (lines : All IsLine (lines_of m)) (storage : HoldsCharacters m.works.storage) where
   abbrev e : Entry
   e = entry_of customer number numbers deck profile stretches

@@ -151,7 +151,7 @@ module _ {Y : Type 0} (row : List ℕ → ℕ → ℕ → Y → Row) (begins : B
         ∙ each k ∙ sym (at_places cell row customer number (keyed customer number) k first xs)
 
     -- so they are the same
-    are_made : rows_of customer number found ≡ made
+    pub are_made : rows_of customer number found ≡ made
     are_made = same_rising place_in (is_row_at customer number) (rows_of customer number found) made found_placed made_placed found_rise made_rise same_at
 
 -- ---- whose a row is

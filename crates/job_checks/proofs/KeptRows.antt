@@ -15,8 +15,7 @@ use Rattle.ledger_tables.specs.Tables as row
 use Rattle.ledger_tables.specs.Tables.{job_row, placed, state_rows, profile_rows}
 use Rattle.ledger.specs.Standing.{named, stretches_of, state_of, pages_of, cards_of, lines_of, profile_of, pockets_of, CanBeKept, Rows}
 use Rattle.job_checks.specs.Kept.{rows_of_stretches, version_row, AreKept, AreOwned, HasMachine, IsKept}
-use Rattle.job_checks.specs.Tables.{pages_from, rows_of, version_columns, HasRows}
-use Rattle.job_checks.specs.declared.all_rows.AllRows.{AllRows}
+use Rattle.job_checks.specs.Tables.{pages_from, rows_of, version_columns, HasRows, WholeTables}
 use Rattle.job_checks.proofs.AmongLemmas.{IsAmong, all_among, from_among}
 use Rattle.job_checks.proofs.KeptLemmas.{all_owned, all_things_owned, distinct_jobs, found_itself, has_rows, has_things, BeginsAs}
 use Rattle.job_checks.proofs.OfficeLemmas.{row_in_jobs}
@@ -24,10 +23,10 @@ use Rattle.job_checks.proofs.PlacedLemmas.{page_cell}
 use Rattle.job_checks.proofs.StandingRows.{pages_all, pockets_at}
 
 -- rows of pages and of pockets begin with their job's name and their place
-pages_begin : BeginsAs row.page_row
+pub pages_begin : BeginsAs row.page_row
 pages_begin = record { customer = λ customer number place y. refl; number = λ customer number place y. refl; place = λ customer number place y. refl }
 
-pockets_begin : BeginsAs row.pocket_row
+pub pockets_begin : BeginsAs row.pocket_row
 pockets_begin = record { customer = λ customer number place y. refl; number = λ customer number place y. refl; place = λ customer number place y. refl }
 
 -- the rows of a job, or of none, in each table whose rows are in order
@@ -46,9 +45,9 @@ lines_for customer number o = placed (row.line_row customer number) 1 (lines_of 
 abbrev profile_for : List ℕ → ℕ → Option Job → List Row
 profile_for customer number o = profile_rows customer number (profile_of o)
 
-module _ (db : Database) (all : AllRows) (jobs : Office) (has : HasRows db all) (rows : Rows db jobs) where
+module _ (db : Database) (all : WholeTables) (jobs : Office) (has : HasRows db all) (rows : Rows db jobs) where
   -- the rows of `jobs` are those of the office's jobs
-  jobs_are : all.jobs.items ≡ map row_in_jobs jobs
+  jobs_are : all.jobs ≡ map row_in_jobs jobs
   jobs_are = has.rows.jobs ∙ rows.tables.shared.jobs ∙ map-map job_row named jobs
 
   -- no two jobs have the same name
@@ -56,19 +55,19 @@ module _ (db : Database) (all : AllRows) (jobs : Office) (has : HasRows db all) 
   distinct = distinct_jobs jobs rows.tables.shared.distinct
 
   -- the version is this program's
-  version : all.version.items ≡ version_row
-  version = one_permutation _ _ (subst (λ xs. IsPermutation xs all.version.items) (ap (map version_columns) rows.tables.version) has.rows.version)
+  version : all.version ≡ version_row
+  version = one_permutation _ _ (subst (λ xs. IsPermutation xs all.version) (ap (map version_columns) rows.tables.version) has.rows.version)
 
   -- each row of the other tables names a job
   owned : AreOwned all
   owned = record {
-    stretches = all_owned jobs all.jobs.items jobs_are (db.trees 3) stretches_for (λ customer number. refl) rows.tables.shared.stretches all.stretches.items has.rows.stretches;
-    states = all_owned jobs all.jobs.items jobs_are (db.trees 11) state_for (λ customer number. refl) rows.tables.states all.states.items has.rows.states;
-    pages = all_things_owned jobs all.jobs.items jobs_are row.page_row pages_begin (db.trees 13) all.pages.items has.rows.pages pages_of (λ place. refl) rows.tables.pages;
-    cards = all_owned jobs all.jobs.items jobs_are (db.trees 7) cards_for (λ customer number. refl) rows.tables.shared.cards all.cards.items has.rows.cards;
-    lines = all_owned jobs all.jobs.items jobs_are (db.trees 9) lines_for (λ customer number. refl) rows.tables.shared.lines all.lines.items has.rows.lines;
-    profiles = all_owned jobs all.jobs.items jobs_are (db.trees 15) profile_for (λ customer number. refl) rows.tables.beside.profiles_are all.profiles.items has.rows.profiles;
-    pockets = all_things_owned jobs all.jobs.items jobs_are row.pocket_row pockets_begin (db.trees 17) all.pockets.items has.rows.pockets pockets_of (λ place. refl) rows.tables.beside.pockets_are;
+    stretches = all_owned jobs all.jobs jobs_are (db.trees 3) stretches_for (λ customer number. refl) rows.tables.shared.stretches all.rows.stretches has.rows.stretches;
+    states = all_owned jobs all.jobs jobs_are (db.trees 11) state_for (λ customer number. refl) rows.tables.states all.rows.states has.rows.states;
+    pages = all_things_owned jobs all.jobs jobs_are row.page_row pages_begin (db.trees 13) all.rows.pages has.rows.pages pages_of (λ place. refl) rows.tables.pages;
+    cards = all_owned jobs all.jobs jobs_are (db.trees 7) cards_for (λ customer number. refl) rows.tables.shared.cards all.rows.cards has.rows.cards;
+    lines = all_owned jobs all.jobs jobs_are (db.trees 9) lines_for (λ customer number. refl) rows.tables.shared.lines all.rows.lines has.rows.lines;
+    profiles = all_owned jobs all.jobs jobs_are (db.trees 15) profile_for (λ customer number. refl) rows.tables.beside.profiles_are all.rows.profiles has.rows.profiles;
+    pockets = all_things_owned jobs all.jobs jobs_are row.pocket_row pockets_begin (db.trees 17) all.rows.pockets has.rows.pockets pockets_of (λ place. refl) rows.tables.beside.pockets_are;
   }
 
   module _ (e : Entry) (there : entry_of e.customer e.number jobs ≡ Some e) where
@@ -76,28 +75,28 @@ module _ (db : Database) (all : AllRows) (jobs : Office) (has : HasRows db all) 
     m = picture e.job
 
     -- the tables have the rows of the job's machine, and no others of it
-    machine : HasMachine e.customer e.number all m
+    machine : HasMachine e.customer e.number all.rows m
     machine = record {
-      states = has_rows jobs all.jobs.items jobs_are (db.trees 11) state_for (λ customer number. refl) rows.tables.states all.states.items has.rows.states e there;
-      pages = has_things jobs all.jobs.items jobs_are row.page_row pages_begin (db.trees 13) all.pages.items has.rows.pages pages_of (λ place. refl) rows.tables.pages has.rows.pages_rise
+      states = has_rows jobs all.jobs jobs_are (db.trees 11) state_for (λ customer number. refl) rows.tables.states all.rows.states has.rows.states e there;
+      pages = has_things jobs all.jobs jobs_are row.page_row pages_begin (db.trees 13) all.rows.pages has.rows.pages pages_of (λ place. refl) rows.tables.pages has.rows.pages_rise
           page_cell 0 (pages_from m.works.storage 0 (page_count m.works.storage)) e there (pages_all m.works.storage);
-      cards = has_rows jobs all.jobs.items jobs_are (db.trees 7) cards_for (λ customer number. refl) rows.tables.shared.cards all.cards.items has.rows.cards e there;
-      lines = has_rows jobs all.jobs.items jobs_are (db.trees 9) lines_for (λ customer number. refl) rows.tables.shared.lines all.lines.items has.rows.lines e there;
-      profiles = has_rows jobs all.jobs.items jobs_are (db.trees 15) profile_for (λ customer number. refl) rows.tables.beside.profiles_are all.profiles.items has.rows.profiles e there;
-      pockets = has_things jobs all.jobs.items jobs_are row.pocket_row pockets_begin (db.trees 17) all.pockets.items has.rows.pockets pockets_of (λ place. refl) rows.tables.beside.pockets_are has.rows.pockets_rise
+      cards = has_rows jobs all.jobs jobs_are (db.trees 7) cards_for (λ customer number. refl) rows.tables.shared.cards all.rows.cards has.rows.cards e there;
+      lines = has_rows jobs all.jobs jobs_are (db.trees 9) lines_for (λ customer number. refl) rows.tables.shared.lines all.rows.lines has.rows.lines e there;
+      profiles = has_rows jobs all.jobs jobs_are (db.trees 15) profile_for (λ customer number. refl) rows.tables.beside.profiles_are all.rows.profiles has.rows.profiles e there;
+      pockets = has_things jobs all.jobs jobs_are row.pocket_row pockets_begin (db.trees 17) all.rows.pockets has.rows.pockets pockets_of (λ place. refl) rows.tables.beside.pockets_are has.rows.pockets_rise
           (λ (c : Punched). pocket_cell c.pocket) 1 m.works.units.punch.cards e there (pockets_at 1 m.works.units.punch.cards);
     }
 
     -- and those of its stretches
-    stretches : rows_of e.customer e.number all.stretches.items ≡ rows_of_stretches e.customer e.number e.job.stretches
-    stretches = has_rows jobs all.jobs.items jobs_are (db.trees 3) stretches_for (λ customer number. refl) rows.tables.shared.stretches all.stretches.items has.rows.stretches e there
+    stretches : rows_of e.customer e.number all.rows.stretches ≡ rows_of_stretches e.customer e.number e.job.stretches
+    stretches = has_rows jobs all.jobs jobs_are (db.trees 3) stretches_for (λ customer number. refl) rows.tables.shared.stretches all.rows.stretches has.rows.stretches e there
 
   -- the rows of each entry's job are kept
-  kept_one : (e : Entry) → IsAmong e jobs → IsKept all e
+  kept_one : (e : Entry) → IsAmong e jobs → IsKept all.rows e
   kept_one e among =
       let there = found_itself jobs distinct e among in
       record { can = all_among (λ (e : Entry). CanBeKept e.job) e jobs rows.jobs among; stretches = stretches e there; machine = machine e there }
 
   -- the rows of all tables are those of the office
   pub kept_by : AreKept all jobs
-  kept_by = record { version = version; jobs = jobs_are; distinct = distinct; kept = from_among (IsKept all) jobs kept_one; owned = owned }
+  kept_by = record { version = version; jobs = jobs_are; distinct = distinct; kept = from_among (IsKept all.rows) jobs kept_one; owned = owned }

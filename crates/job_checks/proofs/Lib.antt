@@ -24,3 +24,10 @@ pub mod ExactLemmas
 pub mod KeyLemmas
 pub mod OwnerLaw
 pub mod NameLaw
+pub mod OneJob
+pub mod WholeRows
+pub mod WalkLemmas
+pub mod HandedRows
+pub mod JobTexts
+pub mod JobReads
+pub mod FoundLemmas

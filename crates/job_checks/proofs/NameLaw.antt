@@ -24,8 +24,7 @@ use Rattle.sqlite_trees.specs.View.{is_int}
 use Rattle.ledger_tables.specs.Schema.{bureau_schema}
 use Rattle.ledger_tables.specs.Tables.{cells, has_customer, has_number, is_row_of}
 use Rattle.job_checks.specs.Kept.{AreNamedApart}
-use Rattle.job_checks.specs.Tables.{HasRows, IsBureaus, rows_of}
-use Rattle.job_checks.specs.declared.all_rows.AllRows.{AllRows}
+use Rattle.job_checks.specs.Tables.{HasRows, IsBureaus, rows_of, WholeTables}
 use Rattle.job_checks.proofs.AmongLemmas.{IsAmong, all_among, from_among, none_pass}
 use Rattle.job_checks.proofs.KeyLemmas.{column_of_cells, IsNaming, NameTheSame}
 use Rattle.job_checks.proofs.OwnerLaw.{jobs_named}
@@ -110,7 +109,7 @@ module _ (db : Database) (bureaus : IsBureaus db) where
   cells_apart = ascending-map OtherName (drop 1) (db.trees 1)
       (ascending_so (IsSingle (db.trees 1)) (λ a b. value_cmp (rowid a) (rowid b) ≡ Less) (λ a b. OtherName (drop 1 a) (drop 1 b)) (other_name (db.trees 1)) (db.trees 1) each_single bureaus.in_order.jobs.0)
 
-pub jobs_apart : (db : Database) (all : AllRows) → HasRows db all → AreNamedApart all.jobs.items
+pub jobs_apart : (db : Database) (all : WholeTables) → HasRows db all → AreNamedApart all.jobs
 jobs_apart db all has = subst AreNamedApart (sym has.rows.jobs) (cells_apart db has.bureaus)
 
 -- ---- what comes later
@@ -146,7 +145,7 @@ apart_from_later rows zero it later is apart = (subst AreNamedApart is apart).0
 apart_from_later [] (suc at) it later is apart = absurd (let e = is in cc)
 apart_from_later (r ∷ rows) (suc at) it later is apart = apart_from_later rows at it later is apart.1
 
-pub none_later : (db : Database) (all : AllRows) → HasRows db all → (later : List Row) (it : Row) (at : ℕ) → drop at all.jobs.items ≡ it ∷ later
+pub none_later : (db : Database) (all : WholeTables) → HasRows db all → (later : List Row) (it : Row) (at : ℕ) → drop at all.jobs ≡ it ∷ later
     → (customer : List ℕ) (number : ℕ) → column it 0 ≡ Text customer → column it 1 ≡ Int (pos number) → rows_of customer number later ≡ []
 none_later db all has later it at there customer number name place =
-    none_pass (is_row_of customer number) later (other_row customer number it name place later (apart_from_later all.jobs.items at it later there (jobs_apart db all has)))
+    none_pass (is_row_of customer number) later (other_row customer number it name place later (apart_from_later all.jobs at it later there (jobs_apart db all has)))

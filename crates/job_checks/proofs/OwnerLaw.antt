@@ -21,8 +21,7 @@ use Rattle.ledger_tables.specs.Schema.{bureau_schema, required, to_card, to_job}
 use Rattle.ledger_tables.specs.Schema as schema
 use Rattle.ledger_tables.specs.Tables.{cells}
 use Rattle.job_checks.specs.Kept.{AreOwned, IsOwned}
-use Rattle.job_checks.specs.Tables.{HasRows, IsBureaus}
-use Rattle.job_checks.specs.declared.all_rows.AllRows.{AllRows}
+use Rattle.job_checks.specs.Tables.{HasRows, IsBureaus, WholeTables}
 use Rattle.job_checks.proofs.AmongLemmas.{IsAmong, all_among}
 use Rattle.job_checks.proofs.KeptLemmas.{contains}
 use Rattle.job_checks.proofs.KeyLemmas.{agree_in_name, any_among, column_of_cells, naming, naming_rows, not_null, IsNaming, NameTheSame}
@@ -148,11 +147,11 @@ module _ (jobs table rows : List Row) (owned : AllByRecursion (IsOwned jobs) tab
   in_another_order : IsPermutation table rows → AllByRecursion (IsOwned jobs) rows
   in_another_order same = recursion_from_All (IsOwned jobs) rows (All-permutation (IsOwned jobs) table rows same (All-from_recursion (IsOwned jobs) table owned))
 
-pub all_are_owned : (db : Database) (all : AllRows) → HasRows db all → AreOwned all
+pub all_are_owned : (db : Database) (all : WholeTables) → HasRows db all → AreOwned all
 all_are_owned db all has =
     let bureaus = has.bureaus in
     let read = has.rows in
-    let each : (rows : List Row) → AllByRecursion (HasOwner (db.trees 1)) rows → AllByRecursion (IsOwned all.jobs.items) (cells rows) =
+    let each : (rows : List Row) → AllByRecursion (HasOwner (db.trees 1)) rows → AllByRecursion (IsOwned all.jobs) (cells rows) =
     λ rows owners. subst (λ jobs. AllByRecursion (IsOwned jobs) (cells rows)) (sym read.jobs) (all_owned db.trees (jobs_named db bureaus) rows owners) in
     record {
       stretches = as_they_stand _ _ _ (each (db.trees 3) (stretches_owned db bureaus)) read.stretches;

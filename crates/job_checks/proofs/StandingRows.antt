@@ -30,8 +30,7 @@ use Rattle.sqlite_keyed.proofs.ListLemmas.{all_weaker}
 use Rattle.job_checks.specs.Checks.{KeepsTold}
 use Rattle.job_checks.specs.Kept.{AreKept, IsKept, IsOwned, version_row}
 use Rattle.job_checks.specs.Reports.{StandsFor}
-use Rattle.job_checks.specs.Tables.{AreRowsOf, IsBureaus, pages_from, rows_of, version_columns}
-use Rattle.job_checks.specs.declared.all_rows.AllRows.{AllRows}
+use Rattle.job_checks.specs.Tables.{AreRowsOf, IsBureaus, pages_from, rows_of, version_columns, WholeTables}
 use Rattle.job_checks.specs.declared.reports.Report.{Report}
 use Rattle.job_checks.proofs.AmongLemmas.{filter_within}
 use Rattle.job_checks.proofs.OfficeLemmas.{row_in_jobs}
@@ -113,58 +112,58 @@ pages_all s place =
     let none : 0 + page_count s ≡ page_count s = omega arith in
     pages_at s 0 (page_count s) place (omega arith) ∙ ap (λ n. unless_blank (cond (nat_lt place n) (Some (page_bytes s place)) None)) none
 
-abbrev card_pocket : Punched → Option ℕ
+abbrev pub card_pocket : Punched → Option ℕ
 card_pocket c = pocket_cell c.pocket
 
 pub pockets_at : (first : ℕ) (cards : List Punched) (place : ℕ) → thing_at card_pocket first cards place ≡ pocket_rows_from first cards place
 pockets_at first [] place = refl
 pockets_at first (c ∷ cards) place = ap (λ o. cond (first == place) (pocket_cell c.pocket) o) (pockets_at (first + 1) cards place)
 
-page_keyed : (customer : List ℕ) (number place k : ℕ) (bytes : List ℕ) → is_row_at customer number place (row.page_row customer number k bytes) ≡ (k == place)
+pub page_keyed : (customer : List ℕ) (number place k : ℕ) (bytes : List ℕ) → is_row_at customer number place (row.page_row customer number k bytes) ≡ (k == place)
 page_keyed customer number place k bytes = rw (same_bytes customer, same_number number) refl
 
-pocket_keyed : (customer : List ℕ) (number place k pocket : ℕ) → is_row_at customer number place (row.pocket_row customer number k pocket) ≡ (k == place)
+pub pocket_keyed : (customer : List ℕ) (number place k pocket : ℕ) → is_row_at customer number place (row.pocket_row customer number k pocket) ≡ (k == place)
 pocket_keyed customer number place k pocket = rw (same_bytes customer, same_number number) refl
 
 -- ---- all tables
 
-module _ (db : Database) (all : AllRows) (jobs : Office) (bureaus : IsBureaus db) (read : AreRowsOf db.trees all) (kept : AreKept all jobs) where
-  abbrev each : (P : Entry → Type 0) → ((e : Entry) → IsKept all e → P e) → AllByRecursion P jobs
-  each P so = all_weaker (IsKept all) P so jobs kept.kept
+module _ (db : Database) (all : WholeTables) (jobs : Office) (bureaus : IsBureaus db) (read : AreRowsOf db.trees all) (kept : AreKept all jobs) where
+  abbrev each : (P : Entry → Type 0) → ((e : Entry) → IsKept all.rows e → P e) → AllByRecursion P jobs
+  each P so = all_weaker (IsKept all.rows) P so jobs kept.kept
 
-  owned_in : (found rows : List Row) → found ≡ rows → AllByRecursion (IsOwned all.jobs.items) found → AllByRecursion (IsOwned all.jobs.items) rows
-  owned_in found rows is owned = subst (AllByRecursion (IsOwned all.jobs.items)) is owned
+  owned_in : (found rows : List Row) → found ≡ rows → AllByRecursion (IsOwned all.jobs) found → AllByRecursion (IsOwned all.jobs) rows
+  owned_in found rows is owned = subst (AllByRecursion (IsOwned all.jobs)) is owned
 
   stretches : IsOf (db.trees 3) (λ customer number. placed (row.stretch_row customer number) 0 (stretches_of (office.job_of customer number jobs)))
-  stretches = is_of jobs all.jobs.items kept.jobs (db.trees 3) (λ customer number o. placed (row.stretch_row customer number) 0 (stretches_of o)) (λ customer number. refl)
+  stretches = is_of jobs all.jobs kept.jobs (db.trees 3) (λ customer number o. placed (row.stretch_row customer number) 0 (stretches_of o)) (λ customer number. refl)
       (owned_in _ _ read.stretches kept.owned.stretches)
       (each _ (λ e k. ap (rows_of e.customer e.number) (sym read.stretches) ∙ k.stretches)) bureaus.in_order.stretches
 
   cards : IsOf (db.trees 7) (λ customer number. placed (row.card_row customer number) 1 (cards_of (office.job_of customer number jobs)))
-  cards = is_of jobs all.jobs.items kept.jobs (db.trees 7) (λ customer number o. placed (row.card_row customer number) 1 (cards_of o)) (λ customer number. refl)
+  cards = is_of jobs all.jobs kept.jobs (db.trees 7) (λ customer number o. placed (row.card_row customer number) 1 (cards_of o)) (λ customer number. refl)
       (owned_in _ _ read.cards kept.owned.cards)
       (each _ (λ e k. ap (rows_of e.customer e.number) (sym read.cards) ∙ k.machine.cards)) bureaus.in_order.cards
 
   lines : IsOf (db.trees 9) (λ customer number. placed (row.line_row customer number) 1 (lines_of (office.job_of customer number jobs)))
-  lines = is_of jobs all.jobs.items kept.jobs (db.trees 9) (λ customer number o. placed (row.line_row customer number) 1 (lines_of o)) (λ customer number. refl)
+  lines = is_of jobs all.jobs kept.jobs (db.trees 9) (λ customer number o. placed (row.line_row customer number) 1 (lines_of o)) (λ customer number. refl)
       (owned_in _ _ read.lines kept.owned.lines)
       (each _ (λ e k. ap (rows_of e.customer e.number) (sym read.lines) ∙ k.machine.lines)) bureaus.in_order.lines
 
   states : IsOf (db.trees 11) (λ customer number. state_rows customer number (state_of (office.job_of customer number jobs)))
-  states = is_of jobs all.jobs.items kept.jobs (db.trees 11) (λ customer number o. state_rows customer number (state_of o)) (λ customer number. refl)
+  states = is_of jobs all.jobs kept.jobs (db.trees 11) (λ customer number o. state_rows customer number (state_of o)) (λ customer number. refl)
       (owned_in _ _ read.states kept.owned.states)
       (each _ (λ e k. ap (rows_of e.customer e.number) (sym read.states) ∙ k.machine.states)) bureaus.in_order.states
 
   profiles : IsOf (db.trees 15) (λ customer number. profile_rows customer number (profile_of (office.job_of customer number jobs)))
-  profiles = is_of jobs all.jobs.items kept.jobs (db.trees 15) (λ customer number o. profile_rows customer number (profile_of o)) (λ customer number. refl)
+  profiles = is_of jobs all.jobs kept.jobs (db.trees 15) (λ customer number o. profile_rows customer number (profile_of o)) (λ customer number. refl)
       (owned_in _ _ read.profiles kept.owned.profiles)
       (each _ (λ e k. ap (rows_of e.customer e.number) (sym read.profiles) ∙ k.machine.profiles)) bureaus.in_order.profiles
 
   pages : IsOfEach row.page_row (db.trees 13) (λ customer number. pages_of (office.job_of customer number jobs))
-  pages = is_of_each jobs all.jobs.items kept.jobs row.page_row (db.trees 13) all.pages.items read.pages pages_of (λ place. refl) kept.owned.pages
+  pages = is_of_each jobs all.jobs kept.jobs row.page_row (db.trees 13) all.rows.pages read.pages pages_of (λ place. refl) kept.owned.pages
       (each _ (λ e k place.
       let s = (picture e.job).works.storage in
-      filter_within (is_row_at e.customer e.number place) (is_row_of e.customer e.number) (at_is_of e.customer e.number place) all.pages.items
+      filter_within (is_row_at e.customer e.number place) (is_row_of e.customer e.number) (at_is_of e.customer e.number place) all.rows.pages
       ∙ ap (filter (is_row_at e.customer e.number place)) k.machine.pages
       ∙ at_places page_cell row.page_row e.customer e.number (page_keyed e.customer e.number) place 0 (pages_from s 0 (page_count s))
       ∙ ap (λ o. map (row.page_row e.customer e.number place) (option_to_list o)) (pages_all s place)))
@@ -174,10 +173,10 @@ module _ (db : Database) (all : AllRows) (jobs : Office) (bureaus : IsBureaus db
       bureaus.in_order.pages
 
   pockets : IsOfEach row.pocket_row (db.trees 17) (λ customer number. pockets_of (office.job_of customer number jobs))
-  pockets = is_of_each jobs all.jobs.items kept.jobs row.pocket_row (db.trees 17) all.pockets.items read.pockets pockets_of (λ place. refl) kept.owned.pockets
+  pockets = is_of_each jobs all.jobs kept.jobs row.pocket_row (db.trees 17) all.rows.pockets read.pockets pockets_of (λ place. refl) kept.owned.pockets
       (each _ (λ e k place.
       let punched = (picture e.job).works.units.punch.cards in
-      filter_within (is_row_at e.customer e.number place) (is_row_of e.customer e.number) (at_is_of e.customer e.number place) all.pockets.items
+      filter_within (is_row_at e.customer e.number place) (is_row_of e.customer e.number) (at_is_of e.customer e.number place) all.rows.pockets
       ∙ ap (filter (is_row_at e.customer e.number place)) k.machine.pockets
       ∙ at_places card_pocket row.pocket_row e.customer e.number (pocket_keyed e.customer e.number) place 1 punched
       ∙ ap (λ o. map (row.pocket_row e.customer e.number place) (option_to_list o)) (pockets_at 1 punched place)))
@@ -212,5 +211,5 @@ module _ (db : Database) (all : AllRows) (jobs : Office) (bureaus : IsBureaus db
     jobs = each (λ e. CanBeKept e.job) (λ e k. k.can);
   }
 
-pub stands_for : (db : Database) (all : AllRows) (report : Report) → IsBureaus db → AreRowsOf db.trees all → KeepsTold all report → StandsFor db report
+pub stands_for : (db : Database) (all : WholeTables) (report : Report) → IsBureaus db → AreRowsOf db.trees all → KeepsTold all report → StandsFor db report
 stands_for db all report bureaus read told = record { office = told.office; named = told.named; rows = rows_stand db all told.office bureaus read told.kept; tells = told.tells }

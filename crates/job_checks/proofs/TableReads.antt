@@ -23,8 +23,8 @@ use Rattle.ledger_tables.proofs.LookupAnswers.{looks}
 use Rattle.ledger_tables.proofs.LookupKeys.{columns, shown_cells}
 use Rattle.ledger_tables.proofs.LookupStatement.{plain_answer, ordered_query, show}
 use Rattle.ledger_tables.proofs.ReadTexts.{Selects}
-use Rattle.job_checks.specs.Tables.{AreByPlace, IsBureaus, version_columns}
-use Rattle.job_checks.proofs.TableAnswers.{all_pass, whole_in_order, whole_by_place}
+use Rattle.job_checks.specs.Tables.{IsBureaus, version_columns}
+use Rattle.job_checks.proofs.TableAnswers.{all_pass, whole_in_order}
 use Rattle.job_checks.proofs.TableTexts.{version_terms, select_version, select_version_is}
 use Rattle.job_checks.proofs.WidthLemmas.{AreRequired, in_full, upto}
 
@@ -46,16 +46,6 @@ module _ (tree : ℕ) (cs : List Column) (required : AreRequired cs) (sql : List
   read_in_order is below old new rows shown ours =
       let did = looks sql _ names is old new [] rows ours shown in
       (did.0, λ shaped obeyed. whole_in_order tree (columns (upto 0 (length cs))) old.now.trees rows (below old.now.trees) shaped did.1 ∙ full_rows old.now obeyed)
-
-  pub read_by_place : Selects sql (ordered_query tree [] (columns (upto 0 (length cs))) (col 1 3)) names → ((db : Trees) → overlay db [] tree ≡ db tree) → ((row : Row) → column (show (columns (upto 0 (length cs))) [] row) 2 ≡ eval (col 1 3) ([] ∷ row ∷ []))
-      → (old new : State) (rows : List Row) → Shown sql [] old new rows → old.now.schema ≡ bureau_schema → IsUnchanged old new × (AreObeyed old.now tree cs → AreByPlace (old.now.trees tree) rows)
-  read_by_place is below shows old new rows shown ours =
-      let did = looks sql _ names is old new [] rows ours shown in (
-        did.0,
-        λ obeyed.
-            let it = whole_by_place tree (columns (upto 0 (length cs))) (col 1 3) shows old.now.trees rows (below old.now.trees) did.1 in
-            (subst (λ xs. IsPermutation xs rows) (full_rows old.now obeyed) it.0, it.1),
-      )
 
 -- ---- each table
 

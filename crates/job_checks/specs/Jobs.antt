@@ -1,5 +1,5 @@
 -- a job whose row and contents were read, run again
-use Rattle.std.specs.Prelude.{◌≡◌, ℕ, pos, true, List, [], ◌∷◌, drop}
+use Rattle.std.specs.Prelude.{◌≡◌, ℕ, pos, true, List, [], ◌∷◌, Result, IfOk, IfErr}
 use Rattle.cards.specs.declared.decks.Card.{Card}
 use Rattle.core_store.specs.Storage.{positions_of}
 use Rattle.units.specs.declared.profiles.Profile.{Profile}
@@ -10,13 +10,15 @@ use Rattle.office.specs.Office.{Entry}
 use Rattle.office.specs.declared.stretches.Stretch.{Stretch}
 use Rattle.ledger_rows.specs.Columns.{truth}
 use Rattle.sqlite.specs.Order.{Row, column}
+use Rattle.sqlite.specs.Tree.{Trees}
 use Rattle.sqlite.specs.declared.types.Value.TheVariants.{Blob, Int, Text}
 use Rattle.ledger_tables.specs.Tables.{job_row}
 use Rattle.ledger.specs.Standing.{named, CanBeKept}
 use Rattle.office.specs.Numbers.{kind_number}
 use Rattle.job_checks.specs.Kept.{IsKept, IsNamed}
-use Rattle.job_checks.specs.Tables.{rows_of}
-use Rattle.job_checks.specs.declared.all_rows.AllRows.{AllRows}
+use Rattle.job_checks.specs.Outcomes.{IsAsItRan}
+use Rattle.job_checks.specs.Tables.{AreRowsOfJob, TableRows}
+use Rattle.job_checks.specs.declared.reports.JobReport.{JobReport}
 use Rattle.job_checks.specs.declared.submitted.Numbers.{Numbers}
 
 -- the row of a job of this name with these numbers, and with these bytes of its deck and of the
@@ -59,9 +61,9 @@ pub record HasComeTo (e : Entry) (m : State) : Type 0 where
   pub machine : m ≡ picture e.job
 
 -- the row is that of the entry's job, whose other rows are kept too
-pub record HasRunAs (all : AllRows) (it : Row) (e : Entry) : Type 0 where
+pub record HasRunAs (rows : TableRows) (it : Row) (e : Entry) : Type 0 where
   pub row : it ≡ job_row (named e)
-  pub kept : IsKept all e
+  pub kept : IsKept rows e
 
 -- the row begins with a name that a job may have
 pub record IsNameOf (it : Row) (customer : List ℕ) (number : ℕ) : Type 0 where
@@ -70,17 +72,20 @@ pub record IsNameOf (it : Row) (customer : List ℕ) (number : ℕ) : Type 0 whe
   pub lawful_text : is_customer customer ≡ true
   pub lawful_int : is_number number ≡ true
 
--- the row is that of the entry's job, which has a name that a job may have and none of the later
--- rows has
-pub record HasRun (all : AllRows) (later : List Row) (it : Row) (e : Entry) : Type 0 where
+-- the row is that of the entry's job, which has a name that a job may have
+pub record HasRun (rows : TableRows) (it : Row) (e : Entry) : Type 0 where
   pub named : IsNamed e
-  pub once : rows_of e.customer e.number later ≡ []
-  pub run : HasRunAs all it e
+  pub run : HasRunAs rows it e
 
--- the row at a place among those of `jobs` is that of the entry's job, which has a name that a job
--- may have and none of the later rows has
-pub record HasRunAt (all : AllRows) (jobs : List Row) (at : ℕ) (e : Entry) : Type 0 where
-  pub it : Row
-  pub later : List Row
-  pub there : drop at jobs ≡ it ∷ later
-  pub run : HasRun all later it e
+-- the same, and the job's other rows are those of the tables
+pub record RunsIn (db : Trees) (it : Row) (e : Entry) : Type 0 where
+  pub row : it ≡ job_row (named e)
+  pub named : IsNamed e
+  pub kept : (rows : TableRows) → AreRowsOfJob db e.customer e.number rows → IsKept rows e
+
+-- what came of the job of a row of `jobs`: its entry if it ran so, else what is told of it, and then
+-- no entry ran so
+pub record IsFound (db : Trees) (it : Row) (found : Result Entry JobReport) : Type 0 where
+  pub run : IfOk found (RunsIn db it)
+  pub told : IfErr found (λ report. ¬ IsAsItRan report.outcome)
+  pub other : IfErr found (λ report. (e : Entry) → ¬ RunsIn db it e)

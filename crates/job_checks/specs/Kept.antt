@@ -21,8 +21,7 @@ use Rattle.ledger_tables.specs.Cells.{unless_blank}
 use Rattle.ledger_tables.specs.Tables as row
 use Rattle.ledger_tables.specs.Tables.{job_row, placed}
 use Rattle.ledger.specs.Standing.{named, stretch_row, CanBeKept}
-use Rattle.job_checks.specs.Tables.{pages_from, placed_some, rows_of}
-use Rattle.job_checks.specs.declared.all_rows.AllRows.{AllRows}
+use Rattle.job_checks.specs.Tables.{TableRows, WholeTables, pages_from, placed_some, rows_of}
 
 module _ (customer : List ℕ) (number : ℕ) where
   -- the rows of stretches
@@ -57,15 +56,15 @@ module _ (customer : List ℕ) (number : ℕ) where
       (row.page_row customer number) 0 (pages_from s 0 (page_count s))
 
   -- the rows of a machine are in the tables, and the job of this name has no others there
-  pub record HasMachine (all : AllRows) (m : State) : Type 0 where
-    pub states : rows_of customer number all.states.items ≡ rows_of_state m
-    pub pages : rows_of customer number all.pages.items ≡ rows_of_pages m.works.storage
-    pub cards : rows_of customer number all.cards.items
+  pub record HasMachine (rows : TableRows) (m : State) : Type 0 where
+    pub states : rows_of customer number rows.states ≡ rows_of_state m
+    pub pages : rows_of customer number rows.pages ≡ rows_of_pages m.works.storage
+    pub cards : rows_of customer number rows.cards
         ≡ rows_of_cards m.works.units.punch.cards
-    pub lines : rows_of customer number all.lines.items ≡ rows_of_lines (lines_of m)
-    pub profiles : rows_of customer number all.profiles.items
+    pub lines : rows_of customer number rows.lines ≡ rows_of_lines (lines_of m)
+    pub profiles : rows_of customer number rows.profiles
         ≡ rows_of_profile m.works.units.punch
-    pub pockets : rows_of customer number all.pockets.items
+    pub pockets : rows_of customer number rows.pockets
         ≡ rows_of_pockets m.works.units.punch.cards
 
 -- the entry's name is one that a job may have
@@ -74,11 +73,11 @@ pub record IsNamed (e : Entry) : Type 0 where
   pub number : is_number e.number ≡ true
 
 -- the rows of the entry's job, other than that in `jobs`, are in the tables, and no others of it
-pub record IsKept (all : AllRows) (e : Entry) : Type 0 where
+pub record IsKept (rows : TableRows) (e : Entry) : Type 0 where
   pub can : CanBeKept e.job
-  pub stretches : rows_of e.customer e.number all.stretches.items
+  pub stretches : rows_of e.customer e.number rows.stretches
       ≡ rows_of_stretches e.customer e.number e.job.stretches
-  pub machine : HasMachine e.customer e.number all (picture e.job)
+  pub machine : HasMachine e.customer e.number rows (picture e.job)
 
 -- a row names a job that one of these rows names too
 abbrev pub IsOwned : List Row → Row → Type 0
@@ -90,23 +89,23 @@ abbrev pub AreNamedApart : List Row → Type 0
 AreNamedApart = IsAscending (λ a b. ¬ ((column a 0 ≡ column b 0) × (column a 1 ≡ column b 1)))
 
 -- each row of the other tables names a job
-pub record AreOwned (all : AllRows) : Type 0 where
-  pub stretches : AllByRecursion (IsOwned all.jobs.items) all.stretches.items
-  pub states : AllByRecursion (IsOwned all.jobs.items) all.states.items
-  pub pages : AllByRecursion (IsOwned all.jobs.items) all.pages.items
-  pub cards : AllByRecursion (IsOwned all.jobs.items) all.cards.items
-  pub lines : AllByRecursion (IsOwned all.jobs.items) all.lines.items
-  pub profiles : AllByRecursion (IsOwned all.jobs.items) all.profiles.items
-  pub pockets : AllByRecursion (IsOwned all.jobs.items) all.pockets.items
+pub record AreOwned (all : WholeTables) : Type 0 where
+  pub stretches : AllByRecursion (IsOwned all.jobs) all.rows.stretches
+  pub states : AllByRecursion (IsOwned all.jobs) all.rows.states
+  pub pages : AllByRecursion (IsOwned all.jobs) all.rows.pages
+  pub cards : AllByRecursion (IsOwned all.jobs) all.rows.cards
+  pub lines : AllByRecursion (IsOwned all.jobs) all.rows.lines
+  pub profiles : AllByRecursion (IsOwned all.jobs) all.rows.profiles
+  pub pockets : AllByRecursion (IsOwned all.jobs) all.rows.pockets
 
 -- the row of `bureau` with this program's version
 abbrev pub version_row : List Row
 version_row = (Int (pos 1) ∷ Int (pos own_version) ∷ []) ∷ []
 
 -- the rows of all tables are those of this office
-pub record AreKept (all : AllRows) (office : Office) : Type 0 where
-  pub version : all.version.items ≡ version_row
-  pub jobs : all.jobs.items ≡ map (λ e. job_row (named e)) office
+pub record AreKept (all : WholeTables) (office : Office) : Type 0 where
+  pub version : all.version ≡ version_row
+  pub jobs : all.jobs ≡ map (λ e. job_row (named e)) office
   pub distinct : AreDistinct office
-  pub kept : AllByRecursion (IsKept all) office
+  pub kept : AllByRecursion (IsKept all.rows) office
   pub owned : AreOwned all

@@ -2,8 +2,10 @@ pub mod Again
 pub mod Checks
 pub mod Jobs
 pub mod Kept
+pub mod Outcomes
 pub mod Reports
 pub mod Schemas
 pub mod Stops
 pub mod Tables
 pub mod Texts
+pub mod Walks

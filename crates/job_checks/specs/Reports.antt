@@ -1,28 +1,18 @@
 -- what a report tells
-use Rattle.std.specs.Prelude.{◌≡◌, ℕ, pos, Bool, true, false, All, List, [], ◌∷◌, drop, IsNone, ⊤}
+use Rattle.std.specs.Prelude.{◌≡◌, pos, All, [], IsNone}
 use Rattle.std.specs.List.{AllByRecursion, AllZip}
 use Rattle.office.specs.Kept.{kept_of, summary_of}
 use Rattle.office.specs.Office.{Entry, Office}
 use Rattle.sqlite.specs.Effect.{Database}
 use Rattle.sqlite.specs.Order.{Row}
+use Rattle.sqlite.specs.Tree.{Trees}
 use Rattle.ledger.specs.Standing.{Rows}
-use Rattle.job_checks.specs.Jobs.{HasRun}
+use Rattle.job_checks.specs.Jobs.{RunsIn}
 use Rattle.job_checks.specs.Kept.{IsNamed}
-use Rattle.job_checks.specs.declared.all_rows.AllRows.{AllRows}
+use Rattle.job_checks.specs.Outcomes.{IsAsItRan}
 use Rattle.job_checks.specs.declared.reports.JobReport.{JobReport}
-use Rattle.job_checks.specs.declared.reports.Outcome.{Outcome}
-use Rattle.job_checks.specs.declared.reports.Outcome.TheVariants.{AsItRan, Differs}
+use Rattle.job_checks.specs.declared.reports.Outcome.TheVariants.{AsItRan}
 use Rattle.job_checks.specs.declared.reports.Report.{Report}
-
--- the job's rows are those that it makes
-abbrev pub IsAsItRan : Outcome → Type 0
-IsAsItRan (AsItRan summary) = ⊤
-IsAsItRan (Differs difference) = ⊥
-
--- whether the job's rows are those that it makes
-abbrev pub is_as_it_ran : Outcome → Bool
-is_as_it_ran (AsItRan summary) = true
-is_as_it_ran (Differs difference) = false
 
 -- no row differs
 pub record HasNoOtherRows (report : Report) : Type 0 where
@@ -41,32 +31,15 @@ pub record Tells (report : JobReport) (e : Entry) : Type 0 where
   pub summary : report.outcome ≡ AsItRan (summary_of (kept_of e.job))
 
 -- the row is that of the job of an entry that the report tells
-pub record IsRun (all : AllRows) (later : List Row) (it : Row) (report : JobReport) : Type 0 where
+pub record IsRun (db : Trees) (it : Row) (report : JobReport) : Type 0 where
   pub entry : Entry
-  pub run : HasRun all later it entry
+  pub run : RunsIn db it entry
   pub tells : Tells report entry
 
 -- a row is reported as it ran exactly if it is that of a job, and then the report tells of this job
-pub record IsReported (all : AllRows) (later : List Row) (it : Row) (report : JobReport)
-    : Type 0 where
-  pub ran : IsAsItRan report.outcome → IsRun all later it report
-  pub each : (e : Entry) → HasRun all later it e → IsAsItRan report.outcome
-
--- the row at a place among those of `jobs` is so reported
-pub record IsReportedAt (all : AllRows) (jobs : List Row) (at : ℕ) (report : JobReport)
-    : Type 0 where
-  pub it : Row
-  pub later : List Row
-  pub there : drop at jobs ≡ it ∷ later
-  pub reported : IsReported all later it report
-
--- each row is so reported
-abbrev pub AreReported : AllRows → List Row → List JobReport → Type 0
-AreReported all [] [] = ⊤
-AreReported all [] (report ∷ reports) = ⊥
-AreReported all (row ∷ later) [] = ⊥
-AreReported all (row ∷ later) (report ∷ reports) =
-    IsReported all later row report × AreReported all later reports
+pub record IsReported (db : Trees) (it : Row) (report : JobReport) : Type 0 where
+  pub ran : IsAsItRan report.outcome → IsRun db it report
+  pub each : (e : Entry) → RunsIn db it e → IsAsItRan report.outcome
 
 -- each job of an office has a name that a job may have
 abbrev pub AreNamed : Office → Type 0

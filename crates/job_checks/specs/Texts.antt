@@ -7,7 +7,7 @@ use Rattle.texts.specs.Made.{made_words}
 use Rattle.texts.specs.declared.made.Made.{Made}
 use Rattle.office.specs.Numbers.{refusal_number}
 use Rattle.office.specs.declared.summaries.Summary.{Summary}
-use Rattle.job_checks.specs.Reports.{is_as_it_ran}
+use Rattle.job_checks.specs.Outcomes.{is_as_it_ran}
 use Rattle.job_checks.specs.declared.differences.Difference.{Difference}
 use Rattle.job_checks.specs.declared.differences.Difference.TheVariants as difference
 use Rattle.job_checks.specs.declared.differences.Found.{Found}

@@ -1,27 +1,30 @@
 //! One job, run again and compared with its rows.
 
-ghost use Rattle.std.specs.Prelude.{◌≡◌, ◌<◌, ℕ, ℤ, List, length, pos, true, IfErr, IfOk, OnErr, OnOk};
+ghost use Rattle.std.specs.Prelude.{◌≡◌, ℕ, ℤ, List, true, Err, IfErr, IfOk, OnErr, OnOk};
+ghost use Rattle.sqlite.specs.Held.{state};
 ghost use Rattle.sqlite.specs.Order.{column};
+ghost use Rattle.sqlite.specs.Tree.{Trees};
 ghost use Rattle.sqlite.specs.declared.types.Value.TheVariants.{Int, Text};
-ghost use Rattle.job_checks.specs.Jobs.{HasRun, HasRunAs, HasRunAt, IsNameOf, entry_of, row_of};
-ghost use Rattle.job_checks.specs.Reports.{AreReported, IsAsItRan, IsReportedAt};
+ghost use Rattle.job_checks.specs.Jobs.{HasRun, HasRunAs, IsFound, IsNameOf, entry_of, row_of};
+ghost use Rattle.job_checks.specs.Outcomes.{IsAsItRan};
 ghost use Rattle.job_checks.specs.Stops.{IfDiffers};
-ghost use Rattle.texts.specs.Names.{is_customer, is_number};
+ghost use Rattle.job_checks.specs.Tables.{LeavesLess, Reads, ReadsOn, tables_of};
+ghost use Rattle.ledger_tables.specs.Disks.{StaysClean};
 ghost use Rattle.office.specs.Office.{Entry};
 
 use crate::again::{Loaded, load, run_again};
-use crate::all_rows::AllRows;
 use crate::cells::{first_other, number_at, text_at};
 use crate::differences::{Difference, Place, Stop, value_apart};
-use crate::following::pass_none;
+use crate::job_rows::JobRows;
 use crate::machines::{check_machine, check_stretches};
 use crate::reports::{JobReport, Outcome};
 use crate::runs::JobRun;
 use crate::submitted::{Numbers, Submitted, read_profile, read_stretches, read_submitted};
 use ledger_rows::truth;
+use ledger_tables::Fault;
 use office::Stretch;
 use sqlite::types::ValueRef;
-use sqlite::{Row, params};
+use sqlite::{Alter, Row, Transaction, params};
 use std::alloc::{AllocError, Global};
 use texts::{JobName, is_customer, is_number};
 use units::Profile;
@@ -57,7 +60,7 @@ fn check_row(row: &Row, name: JobName<'_>, job: Numbers, loaded: &Loaded) -> Res
 /// its rows.
 fn check_again(
     alloc: Global,
-    all: &AllRows,
+    rows: &JobRows,
     row: &Row,
     name: JobName<'_>,
     submitted: Submitted,
@@ -67,18 +70,18 @@ fn check_again(
     requires { IsNameOf row.now name.customer.now name.number }
     ensures same { IfOk result (λ run. run ≡ entry_of name.entry.customer.now name.entry.number
         submitted.numbers submitted.deck profile stretches.items) }
-    ensures kept { IfOk result (λ run. HasRunAs all.now row.now run) }
-    ensures other { IfDiffers result (¬ HasRunAs all.now row.now (entry_of
+    ensures kept { IfOk result (λ run. HasRunAs (tables_of rows.now) row.now run) }
+    ensures other { IfDiffers result (¬ HasRunAs (tables_of rows.now) row.now (entry_of
         name.entry.customer.now name.entry.number submitted.numbers submitted.deck profile
         stretches.items)) }
 {
     let Submitted { numbers, deck } = submitted;
     let loaded = load(alloc, numbers.kind, numbers.size, deck)?;
     check_row(row, name, numbers, &loaded)?;
-    check_stretches(&all.stretches, name, &stretches)?;
+    check_stretches(&rows.stretches, name, &stretches)?;
     let Loaded { deck, loaded, .. } = loaded;
     let machine = run_again(alloc, loaded, numbers.size, profile, &stretches)?;
-    check_machine(all, name, machine.parts())?;
+    check_machine(rows, name, machine.parts())?;
     let customer = String::from_str(alloc, name.customer)?;
     let run = JobRun::new(
         customer,
@@ -114,33 +117,15 @@ fn name_of(row: &Row) -> Result<JobName<'_>, &'static str>
 }
 
 /// The job of this name and row is run again, and compared with its rows.
-fn check_named(
-    alloc: Global,
-    all: &AllRows,
-    later: &[Row],
-    row: &Row,
-    name: JobName<'_>,
-) -> Result<JobRun, Stop>
+fn check_named(alloc: Global, rows: &JobRows, row: &Row, name: JobName<'_>) -> Result<JobRun, Stop>
     requires { IsNameOf row.now name.customer.now name.number }
-    ensures run { IfOk result (HasRun all.now later.now row.now) }
-    ensures other { IfDiffers result ((e : Entry) → ¬ HasRun all.now later.now row.now e) }
+    ensures run { IfOk result (HasRun (tables_of rows.now) row.now) }
+    ensures other { IfDiffers result ((e : Entry) → ¬ HasRun (tables_of rows.now) row.now e) }
 {
     let submitted = read_submitted(alloc, row)?;
-    let stretches = read_stretches(alloc, &all.stretches, name)?;
-    let profile = read_profile(&all.profiles, name)?;
-    pass_none(later, name, Place::Job)?;
-    check_again(alloc, all, row, name, submitted, profile, stretches)
-}
-
-/// The job of this row is run again, and compared with its rows.
-fn check_row_of(alloc: Global, all: &AllRows, later: &[Row], row: &Row) -> Result<JobRun, Stop>
-    ensures run { IfOk result (HasRun all.now later.now row.now) }
-    ensures other { IfDiffers result ((e : Entry) → ¬ HasRun all.now later.now row.now e) }
-{
-    match name_of(row) {
-        Ok(name) => check_named(alloc, all, later, row, name),
-        Err(name) => Err(Stop::Differs(Difference::NoJob { name })),
-    }
+    let stretches = read_stretches(alloc, &rows.stretches, name)?;
+    let profile = read_profile(&rows.profiles, name)?;
+    check_again(alloc, rows, row, name, submitted, profile, stretches)
 }
 
 /// The bytes of the text in a column, or none.
@@ -175,68 +160,71 @@ fn differing(alloc: Global, row: &Row, difference: Difference) -> Result<JobRepo
     })
 }
 
-/// The job of the row at this place is run again, and compared with its rows: the job, or what is
-/// told of it if it differs.
-fn run_one(
+/// The job of this name and row is run again, and compared with its rows: the job, or what is told
+/// of it if it differs.
+fn run_named(
     alloc: Global,
-    all: &AllRows,
-    jobs: &[Row],
-    at: usize,
+    rows: &JobRows,
+    row: &Row,
+    name: JobName<'_>,
 ) -> Result<Result<JobRun, JobReport>, AllocError>
-    requires { at < length jobs.now }
-    ensures run { IfOk result (λ found. IfOk found (HasRunAt all.now jobs.now at)) }
+    requires { IsNameOf row.now name.customer.now name.number }
+    ensures run { IfOk result (λ found. IfOk found (HasRun (tables_of rows.now) row.now)) }
     ensures told { IfOk result (λ found. IfErr found (λ report. ¬ IsAsItRan report.outcome)) }
     ensures other { IfOk result (λ found. IfErr found (λ report. (e : Entry)
-        → ¬ HasRunAt all.now jobs.now at e)) }
+        → ¬ HasRun (tables_of rows.now) row.now e)) }
 {
-    match check_row_of(alloc, all, &jobs[at + 1..], &jobs[at]) {
+    match check_named(alloc, rows, row, name) {
         Ok(run) => Ok(Ok(run)),
-        Err(Stop::Differs(difference)) => Ok(Err(differing(alloc, &jobs[at], difference)?)),
+        Err(Stop::Differs(difference)) => Ok(Err(differing(alloc, row, difference)?)),
         Err(Stop::NoMemory) => Err(AllocError),
     }
 }
 
-/// Runs the job of the row of `jobs` at this place, counted from 0, again, and compares its rows
-/// with what it makes. Returns the job if its rows are these, else what is told of it: then no job
-/// has these rows. Fails only if there is no memory.
-pub fn run_job(
+/// The job of this name and row is run again, and compared with its rows, which are read inside a
+/// transaction.
+fn read_and_run<S: Alter>(
     alloc: Global,
-    all: &AllRows,
-    at: usize,
-) -> Result<Result<JobRun, JobReport>, AllocError>
-    requires { at < length all.now.jobs.items }
-    ensures run { IfOk result (λ found. IfOk found (HasRunAt all.now all.now.jobs.items at)) }
-    ensures told { IfOk result (λ found. IfErr found (λ report. ¬ IsAsItRan report.outcome)) }
-    ensures other { IfOk result (λ found. IfErr found (λ report. (e : Entry)
-        → ¬ HasRunAt all.now all.now.jobs.items at e)) }
+    tx: &mut Transaction<'_, S>,
+    row: &Row,
+    name: JobName<'_>,
+) -> Result<Result<JobRun, JobReport>, Fault>
+    requires { IsNameOf row.now name.customer.now name.number }
+    ensures read { Reads S.Store tx.old.conn.now tx.new.conn.now result
+        (λ db found. IsFound db row.now found) }
+    ensures same_reference { tx.new.conn.ghost_name ≡ tx.old.conn.ghost_name }
+    ensures left { LeavesLess (state S.Store tx.old.conn.now) (state S.Store tx.new.conn.now) }
+    ensures clean { StaysClean S.Store tx.old.conn.now tx.new.conn.now }
 {
-    run_one(alloc, all, all.jobs.as_slice(), at)
+    let rows = JobRows::read(tx, name)?;
+    let found = run_named(alloc, &rows, row, name)?;
+    Ok(found)
 }
 
-/// What is told of the job of the row at this place.
-fn check_job(alloc: Global, all: &AllRows, jobs: &[Row], at: usize) -> Result<JobReport, AllocError>
-    requires { at < length jobs.now }
-    ensures { IfOk result (IsReportedAt all.now jobs.now at) }
+/// What is told of a row with a value in this column that no name has: it is that of no job.
+fn unnamed(alloc: Global, row: &Row, name: &'static str) -> Result<JobReport, AllocError>
+    requires { (customer : List ℕ) → (number : ℕ) → ¬ IsNameOf row.now customer number }
+    ensures { IfOk result (λ report. (db : Trees) → IsFound db row.now (Err report)) }
 {
-    match run_one(alloc, all, jobs, at)? {
-        Ok(run) => run.report(alloc),
-        Err(report) => Ok(report),
-    }
+    differing(alloc, row, Difference::NoJob { name })
 }
 
-/// What is told of the job of each of these rows.
-pub(crate) fn check_jobs(
+/// Runs the job of a row of `jobs` again, and compares its rows, which are read inside a
+/// transaction, with what it makes. Returns the job if its rows are these, else what is told of it:
+/// then no job has these rows. Fails with 1 if there is no memory, and with 2 if the store fails.
+pub(crate) fn run_job<S: Alter>(
     alloc: Global,
-    all: &AllRows,
-    jobs: &[Row],
-) -> Result<Vec<JobReport>, AllocError>
-    ensures { IfOk result (λ reports. AreReported all.now jobs.now reports.items) }
+    tx: &mut Transaction<'_, S>,
+    row: &Row,
+) -> Result<Result<JobRun, JobReport>, Fault>
+    ensures read { ReadsOn S.Store tx.old.conn.now tx.new.conn.now result
+        (λ db found. IsFound db row.now found) }
+    ensures same_reference { tx.new.conn.ghost_name ≡ tx.old.conn.ghost_name }
+    ensures left { LeavesLess (state S.Store tx.old.conn.now) (state S.Store tx.new.conn.now) }
+    ensures clean { StaysClean S.Store tx.old.conn.now tx.new.conn.now }
 {
-    let mut reports = Vec::new(alloc);
-    for at in 0..jobs.len() {
-        let report = check_job(alloc, all, jobs, at)?;
-        reports.try_reserve(1)?;
-        reports.push_reserved(report);
+    match name_of(row) {
+        Ok(name) => read_and_run(alloc, tx, row, name),
+        Err(name) => Ok(Err(unnamed(alloc, row, name)?)),
     }
-    Ok(reports)
 }

@@ -1,10 +1,10 @@
 //! The check of a bureau's file: each job is run again, and the rows of all tables are compared
 //! with what it makes.
 //!
-//! [`read_rows`] reads the rows of all tables, and [`run_job`] runs the job of one row of `jobs`
-//! again: it returns the job exactly if its rows are those that it makes. [`check`] does so for all
-//! jobs, looks for rows that belong to no job ([`find_orphans`]), and compares the schema with that
-//! of a bureau without jobs. [`report_text`] is what is printed of it (`specs/Texts.antt`).
+//! [`each_job`] goes through the rows of `jobs`: it reads the other rows of one job ([`JobRows`]),
+//! runs the job again, and has it taken exactly if its rows are those that it makes. [`check`] makes
+//! a report of this, and compares the schema with that of a bureau without jobs. [`report_text`] is
+//! what is printed of it (`specs/Texts.antt`).
 //!
 //! The contract for the layer above: a report tells no difference exactly where the tables stand for
 //! an office whose jobs have names that jobs may have, and then it tells of each of its jobs
@@ -18,16 +18,15 @@
 
 mod again;
 mod alike;
-mod all_rows;
 mod cells;
 mod checks;
 mod differences;
 mod following;
+mod job_rows;
 mod jobs;
 mod laws;
 mod machines;
 mod names;
-mod owners;
 mod parts;
 mod reading;
 mod report_lines;
@@ -35,15 +34,18 @@ mod reports;
 mod runs;
 mod schemas;
 mod submitted;
+mod walks;
+mod whole_tables;
 
-pub use all_rows::AllRows;
 pub use cells::{number_at, text_at, value_at};
-pub use checks::{check, find_orphans};
+pub use checks::check;
 pub use differences::{Difference, Found, Place};
-pub use jobs::run_job;
+pub use job_rows::JobRows;
 pub use laws::{jobs_have_names_of_their_own, rows_name_jobs};
-pub use reading::read_rows;
+pub use reading::hand_back;
 pub use report_lines::{job_text, orphans_text, push_summary, report_text};
 pub use reports::{JobReport, Orphan, Outcome, Report, Table};
 pub use runs::JobRun;
 pub use schemas::SchemaDifference;
+pub use walks::{EachJob, Walked, each_job};
+pub use whole_tables::{read_jobs, read_version};

@@ -10,14 +10,14 @@ ghost use Rattle.ledger.specs.Standing.{stretch_row as stretch_cells};
 ghost use Rattle.ledger_rows.specs.Columns.{HoldsCharacters, IsLine, line_cells};
 ghost use Rattle.ledger_rows.specs.Pockets.{IsPunched, pocket_cell};
 ghost use Rattle.job_checks.specs.Kept.{rows_of_cards, rows_of_lines, rows_of_pages, rows_of_pockets, rows_of_profile, rows_of_state, rows_of_stretches, HasMachine};
-ghost use Rattle.job_checks.specs.Tables.{rows_of_job};
+ghost use Rattle.job_checks.specs.Tables.{rows_of_job, tables_of};
 ghost use Rattle.sqlite.specs.Order.{Row as Values};
 ghost use Rattle.ledger_tables.specs.Cells.{unless_blank};
 ghost use Rattle.ledger_tables.specs.Tables.{line_row, page_row, pocket_row, stretch_row};
 
-use crate::all_rows::AllRows;
 use crate::differences::{Difference, Place};
 use crate::following::{pass, pass_none};
+use crate::job_rows::JobRows;
 use core_store::{Core, PAGE_SIZE, PlaneCore};
 use ledger_rows::{
     card_bytes, is_blank_page, line_bytes, page_bytes, pocket_cell, profile_row, state_row,
@@ -284,27 +284,27 @@ fn check_storage(
 
 /// The rows of a job's machine are those of this one.
 pub(crate) fn check_machine(
-    all: &AllRows,
+    rows: &JobRows,
     name: JobName<'_>,
     machine: &Parts<PlaneCore>,
 ) -> Result<(), Difference>
     requires range { IsInRange machine.now }
     requires cards { length machine.now.works.units.punch.cards ≤ 20000 }
     requires lines { length (lines_of machine.now) ≤ 20000 }
-    ensures rows { OnOk result (HasMachine name.entry.customer.now name.entry.number all.now
-        machine.now) }
-    ensures other { OnErr result (¬ HasMachine name.entry.customer.now name.entry.number all.now
-        machine.now) }
+    ensures rows { OnOk result (HasMachine name.entry.customer.now name.entry.number
+        (tables_of rows.now) machine.now) }
+    ensures other { OnErr result (¬ HasMachine name.entry.customer.now name.entry.number
+        (tables_of rows.now) machine.now) }
     ensures cards { OnOk result (All IsPunched machine.now.works.units.punch.cards) }
     ensures lines { OnOk result (All IsLine (lines_of machine.now)) }
     ensures characters { OnOk result (HoldsCharacters machine.now.works.storage) }
 {
     let cards = machine.units.punch.cards.as_slice();
-    check_state(&all.states, name, machine)?;
-    check_profile(&all.profiles, name, &machine.units.punch)?;
-    check_cards(&all.cards, name, cards)?;
-    check_pockets(&all.pockets, name, cards)?;
-    check_lines(&all.lines, name, machine.units.printer.lines.as_slice())?;
-    check_storage(&all.pages, name, machine)?;
+    check_state(&rows.states, name, machine)?;
+    check_profile(&rows.profiles, name, &machine.units.punch)?;
+    check_cards(&rows.cards, name, cards)?;
+    check_pockets(&rows.pockets, name, cards)?;
+    check_lines(&rows.lines, name, machine.units.printer.lines.as_slice())?;
+    check_storage(&rows.pages, name, machine)?;
     Ok(())
 }

@@ -1,7 +1,8 @@
 //! What the check tells.
 
 ghost use Rattle.std.specs.Prelude.{◌≡◌, ◌↔◌, All, count_by, not, IsTrue};
-ghost use Rattle.job_checks.specs.Reports.{HasNoDifference, HasNoOtherRows, IsAsItRan, is_as_it_ran};
+ghost use Rattle.job_checks.specs.Outcomes.{IsAsItRan, is_as_it_ran};
+ghost use Rattle.job_checks.specs.Reports.{HasNoDifference, HasNoOtherRows};
 ghost use Rattle.job_checks.specs.Texts.{table_words};
 
 use crate::differences::Difference;

@@ -8,8 +8,10 @@ use crate::making::is_place_free;
 use crate::opening::open_from;
 use crate::places::{Part, Place, copy_bytes, fault_of, sync, sync_folder_of};
 use crate::working::let_go;
+use ledger::Bureau;
 use ledger_tables::OpenFault;
-use sqlite::{Alter, Connection, Leftover, Unknown};
+use sqlite::{Alter, Connection, FileStore, Leftover, Unknown};
+use sqlite_disk::Disk;
 use std::io::ErrorKind;
 use std::os::unix::fs::MetadataExt;
 use std::{fs, io};
@@ -20,17 +22,18 @@ const ACCESS: u32 = 0o777;
 /// Its owner may read and write it, in a file's mode.
 const OWNED: u32 = 0o600;
 
-/// The comparison of a copy with its file, whatever the stores are. It keeps what it has read.
+/// The comparison of a copy with its file, whatever the stores are. It keeps what it has found.
 pub trait Comparison {
     // The copy was compared, and is the same as the file.
     ghost found_same: { Self → Type 0 };
 
-    /// Reads the file, and hands the store back. It writes nothing.
-    fn read<S: Alter + Drop>(&mut self, conn: Connection<S>) -> S;
-
-    /// Reads the copy and compares it with what was read of the file, and hands the store back. It
-    /// writes nothing.
-    fn compare<S: Alter + Drop>(&mut self, conn: Connection<S>) -> S;
+    /// Compares a copy with the file, both of which are open, and hands both stores back, the file's
+    /// first. It writes nothing.
+    fn compare<S: Alter + Drop, T: Alter + Drop>(
+        &mut self,
+        file: Connection<S>,
+        copy: Connection<T>,
+    ) -> (S, T);
 
     /// Whether the copy was compared, and is the same as the file.
     fn is_same(&self) -> bool
@@ -56,10 +59,19 @@ fn copy_fault(error: &io::Error) -> CopyFault {
     CopyFault::Copy(fault_of(error))
 }
 
-/// Copies a file, and its log if it has one. No other program may have them open.
-fn copy_both(rt: &HostRuntime, place: &Place, part: &Place, mode: u32) -> io::Result<()> {
+/// Copies a file, and its log if it had one. No other program may have them open.
+fn copy_both(
+    rt: &HostRuntime,
+    place: &Place,
+    part: &Place,
+    mode: u32,
+    log: Option<u64>,
+) -> io::Result<()> {
     copy_bytes(rt, &place.file, &part.file)?;
-    place.copy_log(rt, part, mode)
+    match log {
+        Some(_) => place.copy_log(rt, part, mode),
+        None => Ok(()),
+    }
 }
 
 /// The mode of a copy: who may read and write it are those who may do so with the file.
@@ -68,8 +80,14 @@ fn mode_for(rt: &HostRuntime, place: &Place) -> io::Result<u32> {
     Ok((found.mode() & ACCESS) | OWNED)
 }
 
-/// Makes a copy beside a path, under a name that no other file has.
-fn make_part(rt: &HostRuntime, place: &Place, new: &str) -> Result<Part, CopyFault> {
+/// Makes a copy beside a path, under a name that no other file has. The log had this length before
+/// the file was opened, if there was one.
+fn make_part(
+    rt: &HostRuntime,
+    place: &Place,
+    new: &str,
+    log: Option<u64>,
+) -> Result<Part, CopyFault> {
     let mode = match mode_for(rt, place) {
         Ok(mode) => mode,
         Err(error) => return Err(copy_fault(&error)),
@@ -78,36 +96,11 @@ fn make_part(rt: &HostRuntime, place: &Place, new: &str) -> Result<Part, CopyFau
         Ok(part) => part,
         Err(fault) => return Err(CopyFault::Copy(fault)),
     };
-    match copy_both(rt, place, part.place(), mode) {
+    match copy_both(rt, place, part.place(), mode, log) {
         Ok(()) => Ok(part),
         Err(error) => {
             part.remove(rt);
             Err(copy_fault(&error))
-        }
-    }
-}
-
-/// Reads the bureau whose file is at a place, and makes a copy beside a path while no other program
-/// has the file open. The file and its log are after it what they were.
-fn copy_beside<C: Comparison>(
-    rt: &HostRuntime,
-    place: &Place,
-    new: &str,
-    comparison: &mut C,
-) -> Result<Part, CopyFault> {
-    let log = place.log_length(rt);
-    match open_from(rt, &place.file, Unknown) {
-        Ok(bureau) => {
-            let store = comparison.read(bureau.into_connection());
-            let kept = Kept::Left(Leftover::Store(store));
-            place.restore_log(rt, &kept, log);
-            let part = make_part(rt, place, new);
-            drop(kept);
-            part
-        }
-        Err((fault, kept)) => {
-            let_go(rt, kept, place, log);
-            Err(CopyFault::File(fault))
         }
     }
 }
@@ -130,19 +123,35 @@ fn settle(rt: &HostRuntime, part: &Place) -> Result<(), OpenFault> {
     }
 }
 
-/// Reads a copy back, and compares it with the file. The log that this makes is removed.
-fn read_back<C: Comparison>(
+/// Compares a copy with the file, which is open. The log that an open of the copy makes is removed.
+/// Hands the file's store back.
+fn read_back<S: Alter + Drop, C: Comparison>(
     rt: &HostRuntime,
+    file: Connection<S>,
     part: &Place,
     comparison: &mut C,
-) -> Result<(), OpenFault> {
+) -> (Result<(), OpenFault>, S) {
     match open_from(rt, &part.file, Unknown) {
         Ok(bureau) => {
-            let store = comparison.compare(bureau.into_connection());
-            part.restore_log(rt, &Kept::Left(Leftover::Store(store)), None);
-            Ok(())
+            let (store, copy) = comparison.compare(file, bureau.into_connection());
+            part.restore_log(rt, &Kept::Left(Leftover::Store(copy)), None);
+            (Ok(()), store)
         }
-        Err((fault, _kept)) => Err(fault),
+        Err((fault, _kept)) => (Err(fault), file.into_store()),
+    }
+}
+
+/// Makes one file of a copy, and compares it with the file, which is open. Hands the file's store
+/// back.
+fn try_part<S: Alter + Drop, C: Comparison>(
+    rt: &HostRuntime,
+    file: Connection<S>,
+    part: &Place,
+    comparison: &mut C,
+) -> (Result<(), OpenFault>, S) {
+    match settle(rt, part) {
+        Ok(()) => read_back(rt, file, part, comparison),
+        Err(fault) => (Err(fault), file.into_store()),
     }
 }
 
@@ -181,19 +190,17 @@ fn publish(rt: &HostRuntime, part: &Place, new: &str) -> Result<u64, CopyFault> 
     }
 }
 
-/// Makes one file of a copy, reads it back, and gives it its name if it is found to be the same.
-fn try_part<C: Comparison>(
+/// Gives a copy its name if it was found to be the same.
+fn publish_same<C: Comparison>(
     rt: &HostRuntime,
     part: &Place,
     new: &str,
-    comparison: &mut C,
+    tried: Result<(), OpenFault>,
+    comparison: &C,
 ) -> Result<u64, CopyFault>
-    ensures { OnOk result (C.found_same comparison.new) }
+    ensures { OnOk result (C.found_same comparison.now) }
 {
-    if let Err(fault) = settle(rt, part) {
-        return Err(CopyFault::Copy(fault));
-    }
-    if let Err(fault) = read_back(rt, part, comparison) {
+    if let Err(fault) = tried {
         return Err(CopyFault::Copy(fault));
     }
     if !comparison.is_same() {
@@ -202,9 +209,37 @@ fn try_part<C: Comparison>(
     publish(rt, part, new)
 }
 
+/// Makes a copy of a bureau's file beside a path while the file is open, so that no other program
+/// has it, and gives it its name if it is found to be the same. The log of the file, which had this
+/// length before, becomes what it was.
+fn copy_open<D: Disk + Drop, C: Comparison>(
+    rt: &HostRuntime,
+    bureau: Bureau<FileStore<D>>,
+    place: &Place,
+    log: Option<u64>,
+    new: &str,
+    comparison: &mut C,
+) -> Result<u64, CopyFault>
+    ensures { OnOk result (C.found_same comparison.new) }
+{
+    let file = bureau.into_connection();
+    let part = match make_part(rt, place, new, log) {
+        Ok(part) => part,
+        Err(fault) => {
+            place.restore_log(rt, &Kept::Connection(file), log);
+            return Err(fault);
+        }
+    };
+    let (tried, store) = try_part(rt, file, part.place(), comparison);
+    place.restore_log(rt, &Kept::Left(Leftover::Store(store)), log);
+    let copied = publish_same(rt, part.place(), new, tried, comparison);
+    part.remove(rt);
+    copied
+}
+
 /// Copies the bureau whose file is at a path, with its log, into one new file at another path.
-/// Returns how many bytes that file has. The copy is made under another name beside it, read back
-/// and compared, and gets its name only if it is found to be the same: so it is there whole or not
+/// Returns how many bytes that file has. The copy is made under another name beside it, opened and
+/// compared, and gets its name only if it is found to be the same: so it is there whole or not
 /// at all, even if the program is stopped. Whatever fails, the file and its log are after it what
 /// they were, and nothing that was there is replaced.
 pub fn copy<C: Comparison>(
@@ -223,8 +258,12 @@ pub fn copy<C: Comparison>(
         Ok(place) => place,
         Err(fault) => return Err(CopyFault::File(fault)),
     };
-    let part = copy_beside(rt, &place, new, comparison)?;
-    let copied = try_part(rt, part.place(), new, comparison);
-    part.remove(rt);
-    copied
+    let log = place.log_length(rt);
+    match open_from(rt, &place.file, Unknown) {
+        Ok(bureau) => copy_open(rt, bureau, &place, log, new, comparison),
+        Err((fault, kept)) => {
+            let_go(rt, kept, &place, log);
+            Err(CopyFault::File(fault))
+        }
+    }
 }

@@ -1,36 +1,18 @@
 //! The subcommand `archive`.
 
-ghost use Rattle.std.specs.Prelude.{IsSome};
+ghost use Rattle.std.specs.Prelude.{⊤};
 
 use crate::faults::{done_or_told, found, tell_fault};
 use crate::job_folders::{Filed, file_job};
 use command_line::Status;
 use job_archives::files_of;
-use job_checks::{
-    AllRows, JobReport, JobRun, find_orphans, job_text, orphans_text, read_rows, run_job,
-};
+use job_checks::{EachJob, JobReport, JobRun, Walked, each_job, job_text, orphans_text};
 use ledger_files::{Look, look_into};
-use ledger_tables::OpenFault;
+use ledger_tables::{Fault, OpenFault};
 use sqlite::{Alter, Connection};
 use std::alloc::Global;
 use std::io::Write;
 use std::{fs, io};
-
-/// The look of an archive into a bureau's tables: their rows, or what hindered it.
-#[derive(Drop)]
-struct RowsLook {
-    rows: Option<Result<AllRows, OpenFault>>,
-}
-
-impl Look for RowsLook {
-    ghost looked = { λ old new. IsSome new.rows };
-
-    fn look<S: Alter + Drop>(&mut self, _alloc: Global, conn: Connection<S>) -> S {
-        let (rows, store) = read_rows(conn);
-        self.rows = Some(rows.map_err(OpenFault::from));
-        store
-    }
-}
 
 /// How many jobs were written, were there already, and differ or could not be written.
 #[derive(Clone, Copy)]
@@ -42,10 +24,15 @@ struct Counts {
 
 /// The archive of the jobs of a bureau into a folder.
 #[derive(Drop)]
-struct Archiving<'a> {
+struct Archiving<'a, W: Write> {
     rt: &'a HostRuntime,
     folder: &'a str,
+    output: &'a mut W,
     counts: Counts,
+    /// What came of the walk through the jobs.
+    walked: Option<Result<Walked, OpenFault>>,
+    /// Why the walk was ended, if it was not the bureau's store.
+    failed: Option<io::Error>,
 }
 
 /// Prints the names in which a folder differs, with a comma between two.
@@ -59,30 +46,30 @@ fn show_names<W: Write>(names: &[String], output: &mut W) -> io::Result<()> {
     output.write_all(b"\n")
 }
 
-impl Archiving<'_> {
+impl<W: Write> Archiving<'_, W> {
     /// Counts and prints what came of a job's archive.
-    fn tell<W: Write>(&mut self, run: &JobRun, filed: &Filed, output: &mut W) -> io::Result<()> {
+    fn tell(&mut self, run: &JobRun, filed: &Filed) -> io::Result<()> {
         let customer = run.customer();
         let number = run.number();
         match filed {
             Filed::Written => {
                 self.counts.written = self.counts.written.saturating_add(1);
-                writeln!(output, "{customer} {number}: 6 files")
+                writeln!(self.output, "{customer} {number}: 6 files")
             }
             Filed::Same => {
                 self.counts.same = self.counts.same.saturating_add(1);
-                writeln!(output, "{customer} {number} is there and the same")
+                writeln!(self.output, "{customer} {number} is there and the same")
             }
             Filed::Differs(names) => {
                 self.counts.differing = self.counts.differing.saturating_add(1);
-                write!(output, "{customer} {number} is there and differs")?;
-                show_names(names, output)
+                write!(self.output, "{customer} {number} is there and differs")?;
+                show_names(names, self.output)
             }
             Filed::Hindered(path) => {
                 self.counts.differing = self.counts.differing.saturating_add(1);
                 let path = path.as_str();
                 writeln!(
-                    output,
+                    self.output,
                     "{customer} {number}: {path} is in the way; move it elsewhere"
                 )
             }
@@ -90,29 +77,54 @@ impl Archiving<'_> {
     }
 
     /// Files a job that is as it ran.
-    fn file<W: Write>(&mut self, run: &JobRun, output: &mut W) -> io::Result<()> {
+    fn file(&mut self, run: &JobRun) -> io::Result<()> {
         let archive = files_of(self.rt.alloc(), run)?;
         let filed = file_job(self.rt, self.folder, run.customer(), run.number(), &archive)?;
-        self.tell(run, &filed, output)
+        self.tell(run, &filed)
     }
 
     /// Prints what differs of a job.
-    fn tell_difference<W: Write>(&mut self, report: &JobReport, output: &mut W) -> io::Result<()> {
+    fn tell_difference(&mut self, report: &JobReport) -> io::Result<()> {
         self.counts.differing = self.counts.differing.saturating_add(1);
         let text = job_text(self.rt.alloc(), report)?;
-        output.write_all(&text)
+        self.output.write_all(&text)
     }
 
-    /// Runs each job again, and files those that are as they ran.
-    fn file_all<W: Write>(&mut self, rows: &AllRows, output: &mut W) -> io::Result<()> {
-        for at in 0..rows.jobs.len() {
-            match run_job(self.rt.alloc(), rows, at)? {
-                Ok(run) => self.file(&run, output)?,
-                Err(report) => self.tell_difference(&report, output)?,
-            }
-            output.flush()?;
+    /// Files a job that is as it ran, or prints what differs of it.
+    fn file_or_tell(&mut self, found: Result<JobRun, JobReport>) -> io::Result<()> {
+        match found {
+            Ok(run) => self.file(&run)?,
+            Err(report) => self.tell_difference(&report)?,
         }
-        Ok(())
+        self.output.flush()
+    }
+}
+
+impl<W: Write> EachJob for Archiving<'_, W> {
+    ghost takes = { λ old new found. ⊤ };
+
+    fn take(&mut self, found: Result<JobRun, JobReport>) -> Result<(), Fault> {
+        match self.file_or_tell(found) {
+            Ok(()) => Ok(()),
+            Err(error) => {
+                self.failed = Some(error);
+                Err(Fault::Store)
+            }
+        }
+    }
+}
+
+impl<W: Write> Look for Archiving<'_, W> {
+    ghost looked = { λ old new. ⊤ };
+
+    fn look<S: Alter + Drop>(&mut self, alloc: Global, conn: Connection<S>) -> S {
+        if let Err(error) = make_folder(self.rt, self.folder) {
+            self.failed = Some(error);
+            return conn.into_store();
+        }
+        let (walked, store) = each_job(alloc, conn, self);
+        self.walked = Some(walked.map_err(OpenFault::from));
+        store
     }
 }
 
@@ -121,17 +133,26 @@ fn differ(count: usize) -> &'static str {
     if count == 1 { "differs" } else { "differ" }
 }
 
-/// Prints the rows of no job, and how many jobs were written, were there and differ.
+/// Makes the folder of an archive, unless it is there.
+fn make_folder(rt: &HostRuntime, folder: &str) -> io::Result<()> {
+    match fs::create_dir(rt, folder) {
+        Err(error) if error.kind() == io::ErrorKind::AlreadyExists => Ok(()),
+        made => made,
+    }
+}
+
+/// Prints a row of `bureau` that is not as it is to be, and how many jobs were written, were there
+/// and differ.
 fn tell_end<W: Write>(
     rt: &HostRuntime,
-    rows: &AllRows,
+    walked: &Walked,
     counts: Counts,
     output: &mut W,
 ) -> io::Result<Status> {
-    let orphans = find_orphans(rt.alloc(), rows)?;
+    let orphans = walked.orphans(rt.alloc())?;
     let text = orphans_text(rt.alloc(), &orphans)?;
     output.write_all(&text)?;
-    let jobs = rows.jobs.len();
+    let jobs = walked.jobs;
     let Counts {
         written,
         same,
@@ -150,32 +171,6 @@ fn tell_end<W: Write>(
     }
 }
 
-/// Makes the folder of an archive, unless it is there.
-fn make_folder(rt: &HostRuntime, folder: &str) -> io::Result<()> {
-    match fs::create_dir(rt, folder) {
-        Err(error) if error.kind() == io::ErrorKind::AlreadyExists => Ok(()),
-        made => made,
-    }
-}
-
-/// Files all jobs, and prints what came of each.
-fn archive_rows<W: Write>(
-    rt: &HostRuntime,
-    rows: &AllRows,
-    folder: &str,
-    output: &mut W,
-) -> io::Result<Status> {
-    make_folder(rt, folder)?;
-    let counts = Counts {
-        written: 0,
-        same: 0,
-        differing: 0,
-    };
-    let mut archiving = Archiving { rt, folder, counts };
-    archiving.file_all(rows, output)?;
-    tell_end(rt, rows, archiving.counts, output)
-}
-
 /// Runs each job of the bureau's file at a path again, and files those that are as they ran in a
 /// folder.
 pub(crate) fn archive_file<W: Write, E: Write>(
@@ -185,10 +180,31 @@ pub(crate) fn archive_file<W: Write, E: Write>(
     output: &mut W,
     errors: &mut E,
 ) -> io::Result<Status> {
-    let mut look = RowsLook { rows: None };
-    let looked = look_into(rt, file, &mut look);
-    match found(looked, look.rows) {
-        Ok(rows) => done_or_told(archive_rows(rt, &rows, folder, output), folder, errors),
+    let mut archiving = Archiving {
+        rt,
+        folder,
+        output,
+        counts: Counts {
+            written: 0,
+            same: 0,
+            differing: 0,
+        },
+        walked: None,
+        failed: None,
+    };
+    let looked = look_into(rt, file, &mut archiving);
+    let Archiving {
+        counts,
+        walked,
+        failed,
+        output,
+        ..
+    } = archiving;
+    if let Some(error) = failed {
+        return done_or_told(Err(error), folder, errors);
+    }
+    match found(looked, walked) {
+        Ok(walked) => done_or_told(tell_end(rt, &walked, counts, output), folder, errors),
         Err(fault) => tell_fault(file, fault, errors),
     }
 }

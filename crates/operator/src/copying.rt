@@ -1,11 +1,10 @@
 //! The subcommand `copy`.
 
-ghost use Rattle.std.specs.Prelude.{◌≡◌, Ok, Some, None};
+ghost use Rattle.std.specs.Prelude.{IsNone, IsOkAnd, IsSomeAnd};
 
 use crate::faults::tell_fault;
 use command_line::Status;
-use job_archives::compare_rows;
-use job_checks::{AllRows, Table, read_rows};
+use job_archives::{Compared, compare_files};
 use ledger_files::{Comparison, CopyFault, copy};
 use ledger_tables::{Fault, OpenFault};
 use sqlite::{Alter, Connection};
@@ -15,32 +14,25 @@ use std::io::Write;
 /// The comparison of a copy with its file, by the rows of all tables.
 #[derive(Drop)]
 struct RowComparison {
-    /// The rows of the file, or what hindered their reading.
-    rows: Option<Result<AllRows, Fault>>,
-    /// The first table whose rows differ, if there is one, or what hindered the comparison.
-    other: Option<Result<Option<Table>, Fault>>,
+    /// What was found, or what hindered the comparison.
+    found: Option<Result<Compared, Fault>>,
 }
 
 impl Comparison for RowComparison {
-    ghost found_same = { λ it. it.other ≡ Some (Ok None) };
+    ghost found_same = { λ it. IsSomeAnd it.found (λ found. IsOkAnd found (λ told. IsNone told.other)) };
 
-    fn read<S: Alter + Drop>(&mut self, conn: Connection<S>) -> S {
-        let (rows, store) = read_rows(conn);
-        self.rows = Some(rows);
-        store
-    }
-
-    fn compare<S: Alter + Drop>(&mut self, conn: Connection<S>) -> S {
-        let Some(Ok(rows)) = &self.rows else {
-            return conn.into_store();
-        };
-        let (other, store) = compare_rows(rows, conn);
-        self.other = Some(other);
-        store
+    fn compare<S: Alter + Drop, T: Alter + Drop>(
+        &mut self,
+        file: Connection<S>,
+        copy: Connection<T>,
+    ) -> (S, T) {
+        let (found, store, copied) = compare_files(file, copy);
+        self.found = Some(found);
+        (store, copied)
     }
 
     fn is_same(&self) -> bool {
-        matches!(self.other, Some(Ok(None)))
+        matches!(self.found, Some(Ok(Compared { other: None, .. })))
     }
 }
 
@@ -65,18 +57,17 @@ fn tell_name<E: Write>(new: &str, words: &str, errors: &mut E) -> io::Result<Sta
     Ok(Status::Unusable)
 }
 
-/// Prints what the comparison of a copy found.
+/// Prints why a copy was not found to be the same.
 fn tell_difference<E: Write>(
     file: &str,
     new: &str,
     comparison: &RowComparison,
     errors: &mut E,
 ) -> io::Result<Status> {
-    if let Some(Err(fault)) = &comparison.rows {
-        return tell_fault(file, OpenFault::from(*fault), errors);
-    }
-    match &comparison.other {
-        Some(Ok(Some(table))) => {
+    match &comparison.found {
+        Some(Ok(Compared {
+            other: Some(table), ..
+        })) => {
             let table = table.name();
             writeln!(
                 errors,
@@ -84,8 +75,14 @@ fn tell_difference<E: Write>(
             )?;
             Ok(Status::NotDone)
         }
-        Some(Err(fault)) => tell_no_copy(new, OpenFault::from(*fault), errors),
-        _ => tell_no_copy(new, OpenFault::Store, errors),
+        Some(Err(Fault::NoMemory)) => tell_fault(new, OpenFault::NoMemory, errors),
+        _ => {
+            writeln!(
+                errors,
+                "{new}: fault 2: it cannot be compared with {file}; there is no copy"
+            )?;
+            Ok(Status::Unusable)
+        }
     }
 }
 
@@ -97,8 +94,8 @@ fn tell_copy<W: Write>(
     bytes: u64,
     output: &mut W,
 ) -> io::Result<Status> {
-    let jobs = match &comparison.rows {
-        Some(Ok(rows)) => rows.jobs.len(),
+    let jobs = match &comparison.found {
+        Some(Ok(found)) => found.jobs,
         _ => 0,
     };
     writeln!(
@@ -117,10 +114,7 @@ pub(crate) fn copy_file<W: Write, E: Write>(
     output: &mut W,
     errors: &mut E,
 ) -> io::Result<Status> {
-    let mut comparison = RowComparison {
-        rows: None,
-        other: None,
-    };
+    let mut comparison = RowComparison { found: None };
     match copy(rt, file, new, &mut comparison) {
         Ok(bytes) => tell_copy(file, new, &comparison, bytes, output),
         Err(CopyFault::File(fault)) => tell_fault(file, fault, errors),

@@ -9,7 +9,7 @@ use Rattle.sqlite.specs.Order.{Row}
 use Rattle.job_checks.specs.Again.{HasResumed}
 use Rattle.job_checks.specs.Jobs.{HasComeTo, HasRunAs, entry_of}
 use Rattle.job_checks.specs.Kept.{HasMachine, rows_of_stretches}
-use Rattle.job_checks.specs.Tables.{rows_of}
+use Rattle.job_checks.specs.Tables.{rows_of, tables_of}
 use Rattle.job_checks.proofs.DifferLemmas.{if_differs_any}
 use Rattle.job_checks.proofs.JobLemmas.{came_to, come_to, run_as}
 use Rattle.job_checks.proofs.jobs.check_again.Goals as goal
@@ -18,7 +18,7 @@ pub new-run-requires : goal.new-run-requires
 new-run-requires c =
     let loading = c.in_ok-loaded.ensures.loading in
     let made = c.in_ok-check_machine.ensures in
-    let all = c.args.all.now in
+    let all = tables_of c.args.rows.now in
     let customer = c.args.name.customer.now in
     let number = c.args.name.number in
     let numbers = c.args.submitted.numbers in
@@ -28,7 +28,7 @@ new-run-requires c =
     let same = c.parts.ensures.picture in
     let came = come_to all c.args.row.now customer number numbers c.args.submitted.deck c.in_ok-loaded.loaded.loaded _ _ profile stretches m
     loading.0 loading.1 loading.2 c.in_ok-check_row.ensures.same
-    (subst (λ (xs : List Stretch). rows_of customer number all.stretches.items ≡ rows_of_stretches customer number xs) c.deref-2.ensures.value
+    (subst (λ (xs : List Stretch). rows_of customer number all.stretches ≡ rows_of_stretches customer number xs) c.deref-2.ensures.value
     (subst (λ (rows : List Row). rows_of customer number rows ≡ rows_of_stretches customer number c.deref-2.result.now) c.deref.ensures.value c.in_ok-check_stretches.ensures.same))
     (subst (λ (xs : List Stretch). HasResumed (loaded c.in_ok-loaded.loaded.loaded numbers.size all_off profile) xs m) c.deref-3.ensures.value c.in_ok-machine.ensures.resumed)
     (subst (HasMachine customer number all) same made.rows)
@@ -43,7 +43,7 @@ pub returns-clause-kept : goal.returns-clause-kept
 returns-clause-kept c =
     let loading = c.in_ok-loaded.ensures.loading in
     let made = c.in_ok-check_machine.ensures in
-    let all = c.args.all.now in
+    let all = tables_of c.args.rows.now in
     let customer = c.args.name.customer.now in
     let number = c.args.name.number in
     let numbers = c.args.submitted.numbers in
@@ -53,7 +53,7 @@ returns-clause-kept c =
     let same = c.parts.ensures.picture in
     let ran = run_as all c.args.row.now customer number numbers c.args.submitted.deck c.in_ok-loaded.loaded.loaded _ _ profile stretches m
     loading.0 loading.1 loading.2 c.in_ok-check_row.ensures.same
-    (subst (λ (xs : List Stretch). rows_of customer number all.stretches.items ≡ rows_of_stretches customer number xs) c.deref-2.ensures.value
+    (subst (λ (xs : List Stretch). rows_of customer number all.stretches ≡ rows_of_stretches customer number xs) c.deref-2.ensures.value
     (subst (λ (rows : List Row). rows_of customer number rows ≡ rows_of_stretches customer number c.deref-2.result.now) c.deref.ensures.value c.in_ok-check_stretches.ensures.same))
     (subst (λ (xs : List Stretch). HasResumed (loaded c.in_ok-loaded.loaded.loaded numbers.size all_off profile) xs m) c.deref-3.ensures.value c.in_ok-machine.ensures.resumed)
     (subst (HasMachine customer number all) same made.rows)
@@ -74,4 +74,4 @@ returns-in_err-check_machine-clause-other c = if_differs_any c.from_residual-in_
     let stretches = c.args.stretches.items in
     let came = came_to customer number numbers c.args.submitted.deck c.in_ok-loaded.loaded.loaded profile stretches c.in_ok-machine.machine c.in_ok-loaded.ensures.loading.0
     (subst (λ (xs : List Stretch). HasResumed (loaded c.in_ok-loaded.loaded.loaded numbers.size all_off profile) xs c.in_ok-machine.machine) c.deref-3.ensures.value c.in_ok-machine.ensures.resumed) in
-    c.in_err-check_machine.ensures.other (subst (HasMachine customer number c.args.all.now) (sym (c.parts.ensures.picture ∙ came)) ran.kept.machine))
+    c.in_err-check_machine.ensures.other (subst (HasMachine customer number (tables_of c.args.rows.now)) (sym (c.parts.ensures.picture ∙ came)) ran.kept.machine))

@@ -1,5 +1,5 @@
 use Rattle.std.proofs.Common.{All, take}
-use Rattle.job_checks.specs.Reports.{IsAsItRan}
+use Rattle.job_checks.specs.Outcomes.{IsAsItRan}
 use Rattle.job_checks.specs.declared.reports.JobReport.{JobReport}
 use Rattle.job_checks.proofs.reports.are_as_they_ran.Given as goal
 

@@ -1,5 +1,5 @@
 use Rattle.std.proofs.Common.{◌≡◌, ◌≤◌, count_by, not, take}
-use Rattle.job_checks.specs.Reports.{is_as_it_ran}
+use Rattle.job_checks.specs.Outcomes.{is_as_it_ran}
 use Rattle.job_checks.specs.declared.reports.JobReport.{JobReport}
 use Rattle.job_checks.proofs.reports.count_differing.Given as goal
 
