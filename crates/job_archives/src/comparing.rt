@@ -76,8 +76,8 @@ fn compare_job<S: Alter, T: Alter>(
     Ok(other_rows(&rows, &others))
 }
 
-/// Compares the rows of these jobs in two bureaus, inside a transaction of each, and returns a table in
-/// which the first one that differs does so.
+/// Compares the rows of these jobs in two bureaus, inside a transaction of each, and returns a
+/// table in which the first one that differs does so.
 fn compare_each<S: Alter, T: Alter>(
     first: &mut Transaction<'_, S>,
     second: &mut Transaction<'_, T>,
@@ -179,8 +179,8 @@ fn both_sound(first: Result<(), Fault>, second: Result<(), Fault>) -> Result<(),
 /// Compares a bureau's file with a copy of it: the rows of all tables, those of one job at a time.
 /// Returns a table whose rows are not the same, if there is one: that in which the first job that
 /// differs does so. If there is none, the copy stands for the same offices as the file. Nothing is
-/// written, and the stores are handed back. Fails with 1 if there is no memory, and with 2 if a store
-/// fails, or a job has no name that a number and a text can be.
+/// written, and the stores are handed back. Fails with 1 if there is no memory, and with 2 if a
+/// store fails, or a job has no name that a number and a text can be.
 pub fn compare_files<S: Alter + Drop, T: Alter + Drop>(
     file: Connection<S>,
     copy: Connection<T>,

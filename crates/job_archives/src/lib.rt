@@ -1,4 +1,5 @@
-//! What is kept beside a bureau's file: the archive of a job, the list of jobs, and a copy of the file.
+//! What is kept beside a bureau's file: the archive of a job, the list of jobs, and a copy of the
+//! file.
 //!
 //! `job_checks` runs a job again, and finds that its rows are those that it makes. [`files_of`]
 //! returns the files of such a job: its decks, what it has printed and punched, and a record with
@@ -10,9 +11,9 @@
 //! office that the tables stand for (`specs/Lists.antt`), and what a crash may leave of the store
 //! stands for that office whatever it returns.
 //!
-//! [`compare_files`] compares a bureau's file with a copy of it, both of them open: the rows of all tables, those
-//! of one job at a time, and tells a table that is not the same. If there is none, the copy stands for the same
-//! offices.
+//! [`compare_files`] compares a bureau's file with a copy of it, both of them open: the rows of all
+//! tables, those of one job at a time, and tells a table that is not the same. If there is none,
+//! the copy stands for the same offices.
 #![tactic(auto)]
 
 mod archives;

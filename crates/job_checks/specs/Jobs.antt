@@ -83,8 +83,8 @@ pub record RunsIn (db : Trees) (it : Row) (e : Entry) : Type 0 where
   pub named : IsNamed e
   pub kept : (rows : TableRows) → AreRowsOfJob db e.customer e.number rows → IsKept rows e
 
--- what came of the job of a row of `jobs`: its entry if it ran so, else what is told of it, and then
--- no entry ran so
+-- what came of the job of a row of `jobs`: its entry if it ran so, else what is told of it, and
+-- then no entry ran so
 pub record IsFound (db : Trees) (it : Row) (found : Result Entry JobReport) : Type 0 where
   pub run : IfOk found (RunsIn db it)
   pub told : IfErr found (λ report. ¬ IsAsItRan report.outcome)

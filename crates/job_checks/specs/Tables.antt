@@ -155,16 +155,16 @@ module _ {S : Type 0} (g : Ghosts S) (old new : Held S) where
       × (IsBureaus (state g old).now → Are (state g old).now.trees read))
 
 module _ {S : Type 0} (g : Ghosts S) where
-  -- on Ok, if the connection saw a bureau's schema, it saw a bureau's database, and this holds of its
-  -- trees and of what was read
+  -- on Ok, if the connection saw a bureau's schema, it saw a bureau's database, and this holds of
+  -- its trees and of what was read
   abbrev pub ReadsAlone : {X : Type 0} → Held S → S → Result X Fault → (Trees → X → Type 0)
       → Type 0
   ReadsAlone conn store result Are = IsClean (g.view store) → IfOk result (λ read.
       (state g conn).now.schema ≡ bureau_schema → IsBureaus (state g conn).now
       × Are (state g conn).now.trees read)
 
-  -- on Ok, if the store is clean, the disk was so, and what had a bureau's schema, obeyed it and was
-  -- committed is a bureau's database
+  -- on Ok, if the store is clean, the disk was so, and what had a bureau's schema, obeyed it and
+  -- was committed is a bureau's database
   abbrev pub HandsBack : Held S → S → Result ⊤ Fault → Type 0
   HandsBack conn store result = IsClean (g.view store) → OnOk result
       (HasCleanDisk (state g conn) × ((db : Database) → db.schema ≡ bureau_schema → IsDatabase db

@@ -2,14 +2,14 @@
 //! with what it makes.
 //!
 //! [`each_job`] goes through the rows of `jobs`: it reads the other rows of one job ([`JobRows`]),
-//! runs the job again, and has it taken exactly if its rows are those that it makes. [`check`] makes
-//! a report of this, and compares the schema with that of a bureau without jobs. [`report_text`] is
-//! what is printed of it (`specs/Texts.antt`).
+//! runs the job again, and has it taken exactly if its rows are those that it makes. [`check`]
+//! makes a report of this, and compares the schema with that of a bureau without jobs.
+//! [`report_text`] is what is printed of it (`specs/Texts.antt`).
 //!
-//! The contract for the layer above: a report tells no difference exactly where the tables stand for
-//! an office whose jobs have names that jobs may have, and then it tells of each of its jobs
-//! (`specs/Checks.antt`). Nothing is written: after a check a crash leaves nothing that it might not
-//! have left before.
+//! The contract for the layer above: a report tells no difference exactly where the tables stand
+//! for an office whose jobs have names that jobs may have, and then it tells of each of its jobs
+//! (`specs/Checks.antt`). Nothing is written: after a check a crash leaves nothing that it might
+//! not have left before.
 //!
 //! Two laws say what the rules of a bureau's schema give of its rows: each row of the other tables
 //! names a job ([`rows_name_jobs`]), and no two rows of `jobs` have the same customer and number

@@ -136,8 +136,8 @@ fn walk_settled<S: Alter, E: EachJob>(
 
 /// Runs each job of a bureau again, compares its rows with what it makes, and has it taken, one job
 /// after the other in the order of their rows. Nothing is written, and the store is handed back: a
-/// crash then leaves nothing that it might not have left before. Fails with 1 if there is no memory,
-/// with 2 if the store fails, and as a job was taken.
+/// crash then leaves nothing that it might not have left before. Fails with 1 if there is no
+/// memory, with 2 if the store fails, and as a job was taken.
 pub fn each_job<S: Alter + Drop, E: EachJob>(
     alloc: Global,
     conn: Connection<S>,

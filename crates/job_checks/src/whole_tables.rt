@@ -25,8 +25,8 @@ fn rows<S: Alter>(tx: &mut Transaction<'_, S>, sql: &str) -> Result<Vec<Row>, Fa
     }
 }
 
-/// Reads the rows of `bureau`, inside a transaction: of each its number and the version. Fails with 1
-/// if there is no memory, and with 2 if the store fails.
+/// Reads the rows of `bureau`, inside a transaction: of each its number and the version. Fails with
+/// 1 if there is no memory, and with 2 if the store fails.
 pub fn read_version<S: Alter>(tx: &mut Transaction<'_, S>) -> Result<Vec<Row>, Fault>
     ensures read { Reads S.Store tx.old.conn.now tx.new.conn.now result
         (λ db rows. IsPermutation (map version_columns (db 0)) rows.items) }
@@ -37,8 +37,8 @@ pub fn read_version<S: Alter>(tx: &mut Transaction<'_, S>) -> Result<Vec<Row>, F
     rows(tx, "SELECT id, version FROM bureau")
 }
 
-/// Reads the rows of `jobs` in their order, inside a transaction. Fails with 1 if there is no memory,
-/// and with 2 if the store fails.
+/// Reads the rows of `jobs` in their order, inside a transaction. Fails with 1 if there is no
+/// memory, and with 2 if the store fails.
 pub fn read_jobs<S: Alter>(tx: &mut Transaction<'_, S>) -> Result<Vec<Row>, Fault>
     ensures read { Reads S.Store tx.old.conn.now tx.new.conn.now result
         (λ db rows. rows.items ≡ cells (db 1)) }

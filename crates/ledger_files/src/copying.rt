@@ -27,8 +27,8 @@ pub trait Comparison {
     // The copy was compared, and is the same as the file.
     ghost found_same: { Self → Type 0 };
 
-    /// Compares a copy with the file, both of which are open, and hands both stores back, the file's
-    /// first. It writes nothing.
+    /// Compares a copy with the file, both of which are open, and hands both stores back, the
+    /// file's first. It writes nothing.
     fn compare<S: Alter + Drop, T: Alter + Drop>(
         &mut self,
         file: Connection<S>,

@@ -19,7 +19,8 @@ struct RowComparison {
 }
 
 impl Comparison for RowComparison {
-    ghost found_same = { λ it. IsSomeAnd it.found (λ found. IsOkAnd found (λ told. IsNone told.other)) };
+    ghost found_same = { λ it.
+        IsSomeAnd it.found (λ found. IsOkAnd found (λ told. IsNone told.other)) };
 
     fn compare<S: Alter + Drop, T: Alter + Drop>(
         &mut self,
