@@ -66,9 +66,14 @@ fn tell_difference<E: Write>(
     errors: &mut E,
 ) -> io::Result<Status> {
     match &comparison.found {
-        Some(Ok(Compared {
-            other: Some(table), ..
-        })) => {
+        Some(
+            Ok(
+                Compared {
+                    other: Some(table),
+                    ..
+                },
+            ),
+        ) => {
             let table = table.name();
             writeln!(
                 errors,
