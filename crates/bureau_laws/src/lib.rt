@@ -15,7 +15,8 @@
 //!   the rounds.
 //! - **Customers are apart** ([`customers_are_apart`]): the replies to a customer's commands do not
 //!   depend on any other customer; nor do they over any number of rounds
-//!   ([`customers_are_apart_in_rounds`]).
+//!   ([`customers_are_apart_in_rounds`]). Nor do they depend on whether the customer's jobs are in a
+//!   file of their own or with others' ([`parts_keep_replies`]).
 //! - **A submission may be sent again** ([`repeats_in_any_shift`]): one that was taken gets the
 //!   same reply when it comes again, after any further commands, and changes nothing then. One that
 //!   would have been taken and was lost is taken when it comes later, unless meanwhile a job with
@@ -42,6 +43,7 @@ mod customers;
 mod ends;
 mod heads;
 mod later_rounds;
+mod parts;
 mod refusals;
 mod repeats;
 mod replies;
@@ -54,6 +56,7 @@ pub use customers::{customers_are_apart, customers_are_apart_in_rounds};
 pub use ends::requests_end;
 pub use heads::{one_head, one_refusal};
 pub use later_rounds::repeats_in_later_rounds;
+pub use parts::parts_keep_replies;
 pub use refusals::refusals_have_reasons;
 pub use repeats::repeats_in_any_shift;
 pub use replies::replies_are_read;

@@ -7,3 +7,6 @@ pub mod RecordLines
 pub mod RecordLaw
 pub mod Readable
 mod CopyLemmas
+mod ChosenRows
+pub mod PartLemmas
+mod JoinLemmas

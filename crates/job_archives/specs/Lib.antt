@@ -4,3 +4,5 @@ pub mod Lists
 pub mod Names
 pub mod Records
 pub mod Copies
+pub mod Parts
+pub mod Joins

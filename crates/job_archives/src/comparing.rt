@@ -1,12 +1,13 @@
 //! The comparison of two bureaus, one job after the other.
 
-ghost use Rattle.std.specs.Prelude.{◌≡◌, IfSome, IsNone, Ok, OnOk};
+ghost use Rattle.std.specs.Prelude.{◌≡◌, Ok, OnOk};
 ghost use Rattle.std.specs.List.{AllByRecursion};
 ghost use Rattle.sqlite.specs.Held.{state};
 ghost use Rattle.ledger_tables.specs.Disks.{StaysClean};
 ghost use Rattle.job_checks.specs.Tables.{LeavesLess, LeavesNoMore, tables_of};
-ghost use Rattle.job_archives.specs.Copies.{AreSame, ComparesFiles, HaveSameJob, IsSameJob, ReadsBoth, ReadsBothOn, ReadsBothSettled};
+ghost use Rattle.job_archives.specs.Copies.{Compares, ComparesFiles, HaveSameJob, IsSameJob, JobDiffers, ReadsBoth, ReadsBothOn, ReadsBothSettled, Tells, rows_in};
 
+use crate::customers::{Customers, are_theirs};
 use crate::names::name_in;
 use crate::rows::are_same;
 use job_checks::{JobRows, Table, hand_back, read_jobs, read_version};
@@ -14,20 +15,20 @@ use ledger_tables::Fault;
 use sqlite::{Alter, Connection, Row, Transaction};
 use texts::JobName;
 
-/// What the comparison of a bureau's file with a copy of it found.
+/// What the comparison of a bureau's file with a copy of it, or of a part of it, found.
 #[derive(Drop)]
 pub struct Compared {
     /// A table whose rows are not the same, if there is one.
     pub other: Option<Table>,
-    /// How many jobs the file has.
+    /// How many jobs the copy has.
     pub jobs: usize,
 }
 
 /// The first table in which two readings of a job differ, if there is one. The rows of pages and of
 /// pockets, too, are compared in the order in which they were read.
 fn other_rows(first: &JobRows, second: &JobRows) -> Option<Table>
-    ensures same { IsNone result → tables_of first.now ≡ tables_of second.now }
-    ensures other { IfSome result (λ table. ¬ (tables_of first.now ≡ tables_of second.now)) }
+    ensures { Tells (tables_of first.now ≡ tables_of second.now) (λ table.
+        ¬ (rows_in (tables_of first.now) table ≡ rows_in (tables_of second.now) table)) result }
 {
     if !are_same(&first.stretches, &second.stretches) {
         return Some(Table::Stretches);
@@ -60,8 +61,8 @@ fn compare_job<S: Alter, T: Alter>(
     name: JobName<'_>,
 ) -> Result<Option<Table>, Fault>
     ensures read { ReadsBoth S.Store T.Store first.old.conn.now first.new.conn.now
-        second.old.conn.now second.new.conn.now result (λ db copy told. IsNone told
-        → HaveSameJob db copy name.entry.customer.now name.entry.number) }
+        second.old.conn.now second.new.conn.now result (λ db copy told. Tells
+        (HaveSameJob db copy name.entry.customer.now name.entry.number) (JobDiffers db copy) told) }
     ensures first { first.new.conn.ghost_name ≡ first.old.conn.ghost_name }
     ensures second { second.new.conn.ghost_name ≡ second.old.conn.ghost_name }
     ensures left { LeavesLess (state S.Store first.old.conn.now)
@@ -78,14 +79,14 @@ fn compare_job<S: Alter, T: Alter>(
 
 /// Compares the rows of these jobs in two bureaus, inside a transaction of each, and returns a
 /// table in which the first one that differs does so.
-fn compare_each<S: Alter, T: Alter>(
+pub(crate) fn compare_each<S: Alter, T: Alter>(
     first: &mut Transaction<'_, S>,
     second: &mut Transaction<'_, T>,
     jobs: &[Row],
 ) -> Result<Option<Table>, Fault>
     ensures read { ReadsBothOn S.Store T.Store first.old.conn.now first.new.conn.now
-        second.old.conn.now second.new.conn.now result (λ db copy told. IsNone told
-        → AllByRecursion (IsSameJob db copy) jobs.now) }
+        second.old.conn.now second.new.conn.now result (λ db copy told.
+        Tells (AllByRecursion (IsSameJob db copy) jobs.now) (JobDiffers db copy) told) }
     ensures first { first.new.conn.ghost_name ≡ first.old.conn.ghost_name }
     ensures second { second.new.conn.ghost_name ≡ second.old.conn.ghost_name }
     ensures left { LeavesLess (state S.Store first.old.conn.now)
@@ -105,14 +106,16 @@ fn compare_each<S: Alter, T: Alter>(
     Ok(None)
 }
 
-/// Compares all rows of two bureaus, inside a transaction of each.
+/// Compares all rows of a bureau with those of these customers in another one, inside a transaction
+/// of each.
 fn compare_all<S: Alter, T: Alter>(
     first: &mut Transaction<'_, S>,
     second: &mut Transaction<'_, T>,
+    customers: Customers<'_>,
 ) -> Result<Compared, Fault>
     ensures read { ReadsBoth S.Store T.Store first.old.conn.now first.new.conn.now
         second.old.conn.now second.new.conn.now result
-        (λ db copy told. IsNone told.other → AreSame db copy) }
+        (λ db copy told. Compares db copy customers.entry told) }
     ensures first { first.new.conn.ghost_name ≡ first.old.conn.ghost_name }
     ensures second { second.new.conn.ghost_name ≡ second.old.conn.ghost_name }
     ensures left { LeavesLess (state S.Store first.old.conn.now)
@@ -126,30 +129,33 @@ fn compare_all<S: Alter, T: Alter>(
     let jobs = read_jobs(first)?;
     let other_version = read_version(second)?;
     let other_jobs = read_jobs(second)?;
-    let count = jobs.len();
+    let theirs = other_jobs.as_slice();
+    let count = theirs.len();
     if !are_same(&version, &other_version) {
         return Ok(Compared {
             other: Some(Table::Bureau),
             jobs: count,
         });
     }
-    if !are_same(&jobs, &other_jobs) {
+    if !are_theirs(customers, &jobs, theirs) {
         return Ok(Compared {
             other: Some(Table::Jobs),
             jobs: count,
         });
     }
-    let other = compare_each(first, second, jobs.as_slice())?;
+    let other = compare_each(first, second, theirs)?;
     Ok(Compared { other, jobs: count })
 }
 
-/// Compares all rows of two bureaus, in transactions that are rolled back.
+/// Compares all rows of a bureau with those of these customers in another one, in transactions that
+/// are rolled back.
 fn compare_settled<S: Alter, T: Alter>(
     file: &mut Connection<S>,
     copy: &mut Connection<T>,
+    customers: Customers<'_>,
 ) -> Result<Compared, Fault>
     ensures read { ReadsBothSettled S.Store T.Store file.old file.new copy.old copy.new result
-        (λ db copy told. IsNone told.other → AreSame db copy) }
+        (λ db copy told. Compares db copy customers.entry told) }
     ensures left { LeavesLess (state S.Store file.old) (state S.Store file.new) }
     ensures copy_left { LeavesLess (state T.Store copy.old) (state T.Store copy.new) }
     ensures clean { StaysClean S.Store file.old file.new }
@@ -162,36 +168,39 @@ fn compare_settled<S: Alter, T: Alter>(
     let _copy_schema = copy.schema();
     let mut first = file.transaction();
     let mut second = copy.transaction();
-    let told = compare_all(&mut first, &mut second);
+    let told = compare_all(&mut first, &mut second, customers);
     first.rollback();
     second.rollback();
     told
 }
 
 /// Whether both stores are sound, or the first fault.
-fn both_sound(first: Result<(), Fault>, second: Result<(), Fault>) -> Result<(), Fault>
+pub(crate) fn both_sound(first: Result<(), Fault>, second: Result<(), Fault>) -> Result<(), Fault>
     ensures { OnOk result ((first ≡ Ok tt) × (second ≡ Ok tt)) }
 {
     first?;
     second
 }
 
-/// Compares a bureau's file with a copy of it: the rows of all tables, those of one job at a time.
-/// Returns a table whose rows are not the same, if there is one: that in which the first job that
-/// differs does so. If there is none, the copy stands for the same offices as the file. Nothing is
-/// written, and the stores are handed back. Fails with 1 if there is no memory, and with 2 if a
-/// store fails, or a job has no name that a number and a text can be.
+/// Compares a bureau's file with a copy of it, or of the part of it that these customers have: the
+/// rows of all tables, those of one job at a time. Returns a table whose rows are not the same, if
+/// there is one: that in which the first job that differs does so. If there is none, the copy stands
+/// for the customers' part of each office for which the file stands. Nothing is written, and the
+/// stores are handed back. Fails with 1 if there is no memory, and with 2 if a store fails, or a job
+/// has no name that a number and a text can be.
 pub fn compare_files<S: Alter + Drop, T: Alter + Drop>(
     file: Connection<S>,
     copy: Connection<T>,
+    customers: Customers<'_>,
 ) -> (Result<Compared, Fault>, S, T)
-    ensures same { ComparesFiles S.Store T.Store file copy result.1 result.2 result.0 }
+    ensures compared { ComparesFiles S.Store T.Store customers.entry file copy result.1 result.2
+        result.0 }
     ensures left { LeavesNoMore S.Store file result.1 }
     ensures copy_left { LeavesNoMore T.Store copy result.2 }
 {
     let mut file = file;
     let mut copy = copy;
-    let told = compare_settled(&mut file, &mut copy);
+    let told = compare_settled(&mut file, &mut copy, customers);
     let (sound, store) = hand_back(file);
     let (copied, other) = hand_back(copy);
     match both_sound(sound, copied) {

@@ -1,10 +1,13 @@
 //! The laws of what an archive's files hold.
 
-ghost use Rattle.std.specs.Prelude.{◌≡◌};
-ghost use Rattle.office.specs.Office.{Entry};
+ghost use Rattle.std.specs.Borrow.{Bor};
+ghost use Rattle.std.specs.Prelude.{◌≡◌, ◌++◌, ℕ, List, [], true, false};
+ghost use Rattle.office.specs.Office.{Entry, Office, own};
 ghost use Rattle.ledger.specs.Standing.{CanBeKept};
 ghost use Rattle.job_archives.specs.Archives.{IsReadBack, archive_of};
 ghost use Rattle.job_archives.specs.Facts.{IsFiled, facts_of};
+ghost use Rattle.job_archives.specs.Parts.{HasNoJobs, IsWholeInOne, is_among, part_of};
+ghost use Rattle.job_archives.specs.declared.customers.Customers.{Customers};
 
 use office::commands_keep_jobs;
 
@@ -30,3 +33,25 @@ pub fn archives_are_whole()
     // A law, for the proof: it does nothing.
     commands_keep_jobs();
 }
+
+/// The law of parts: what a customer has of an office is whole in a part that has the customer, and
+/// another part has nothing of it. So of the two parts that the same names make, theirs and the
+/// others', exactly one has all of it.
+pub fn parts_keep_customers()
+    ensures theirs { (customers : Customers) (customer : List ℕ) (office : Office) →
+        is_among customers customer ≡ true
+        → own customer (part_of customers office) ≡ own customer office }
+    ensures others { (customers : Customers) (customer : List ℕ) (office : Office) →
+        is_among customers customer ≡ false → own customer (part_of customers office) ≡ [] }
+    ensures one { (names : Bor (List (Bor (List ℕ)))) (customer : List ℕ) (office : Office) →
+        IsWholeInOne names customer office }
+{}
+
+/// The law of joins: of two offices, the one's jobs and behind them the other's, a customer who has
+/// jobs in one alone has those of that one.
+pub fn joins_keep_customers()
+    ensures first { (customer : List ℕ) (office more : Office) → HasNoJobs more customer
+        → own customer (office ++ more) ≡ own customer office }
+    ensures second { (customer : List ℕ) (office more : Office) → HasNoJobs office customer
+        → own customer (office ++ more) ≡ own customer more }
+{}

@@ -11,22 +11,32 @@
 //! office that the tables stand for (`specs/Lists.antt`), and what a crash may leave of the store
 //! stands for that office whatever it returns.
 //!
-//! [`compare_files`] compares a bureau's file with a copy of it, both of them open: the rows of all
-//! tables, those of one job at a time, and tells a table that is not the same. If there is none,
-//! the copy stands for the same offices.
+//! [`compare_files`] compares a bureau's file with a copy of it, or of the part that some
+//! [`Customers`] have, both of them open: the rows of all tables, those of one job at a time, and
+//! tells a table that is not the same. If there is none, the copy stands for that part of each office
+//! for which the file stands. [`compare_join`] does so with a file that is made of two others.
+//! [`copy_jobs`] fills such a file; [`first_unknown`] and [`first_shared`] say who has jobs.
 #![tactic(auto)]
 
 mod archives;
 mod comparing;
+mod customers;
+mod filling;
+mod joins;
 mod laws;
 mod lines;
 mod listing;
 mod names;
+mod owners;
 mod punched;
 mod records;
 mod rows;
 
 pub use archives::{Archive, ArchivedFile, files_of};
 pub use comparing::{Compared, compare_files};
-pub use laws::{archives_are_read, archives_are_whole};
+pub use customers::Customers;
+pub use filling::copy_jobs;
+pub use joins::compare_join;
+pub use laws::{archives_are_read, archives_are_whole, joins_keep_customers, parts_keep_customers};
 pub use listing::list_jobs;
+pub use owners::{first_shared, first_unknown};

@@ -11,6 +11,7 @@ ghost use Rattle.sqlite.specs.declared.types.Value.TheVariants.{Int, Text};
 ghost use Rattle.ledger.specs.Standing.{Stands, StandsIn, named};
 ghost use Rattle.ledger_tables.specs.Disks.{StaysClean};
 ghost use Rattle.ledger_tables.specs.Tables.{AreDistinct};
+ghost use Rattle.job_checks.specs.Tables.{LeavesLess};
 ghost use Rattle.job_archives.specs.Lists.{Leaves};
 ghost use Rattle.job_archives.specs.Names.{HasName, name_row};
 
@@ -26,6 +27,7 @@ pub(crate) fn read_names<S: Alter>(conn: &mut Connection<S>) -> Result<Vec<Row>,
         → StandsIn (state S.Store conn.old) office → AreDistinct (map named office)
         × Stands (state S.Store conn.new) office × (rows.items ≡ map name_row office)) }
     ensures left { (office : Office) → Leaves S.Store conn.old conn.new office }
+    ensures less { LeavesLess (state S.Store conn.old) (state S.Store conn.new) }
     ensures opened { HasCleanDisk (state S.Store conn.new)
         → OnOk result (IsTrue (state S.Store conn.old).is_open) }
     ensures clean { StaysClean S.Store conn.old conn.new }

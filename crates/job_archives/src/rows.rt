@@ -9,7 +9,7 @@ use sqlite::Row;
 use sqlite_value::order::is_same;
 
 /// Whether two rows have the same values.
-fn is_same_row(first: &Row, second: &Row) -> bool
+pub(crate) fn is_same_row(first: &Row, second: &Row) -> bool
     ensures { IsTrue result ↔ (first.now ≡ second.now) }
 {
     if first.column_count() != second.column_count() {

@@ -1,10 +1,16 @@
-use Rattle.std.proofs.Common.{◌≡◌, sym, ap, subst, ◌∙◌}
+use Rattle.std.proofs.Common.{◌≡◌, List, filter, length, sym, ap, subst, ◌∙◌}
+use Rattle.std.specs.List.{AllByRecursion}
 use Rattle.sqlite.specs.Effect.{Database}
+use Rattle.sqlite.specs.Held.{state}
+use Rattle.sqlite.specs.Order.{Row}
+use Rattle.sqlite.specs.Tree.{Trees}
 use Rattle.ledger_tables.specs.Schema.{bureau_schema}
 use Rattle.ledger_tables.specs.Tables.{cells}
 use Rattle.job_checks.specs.Tables.{IsBureaus}
 use Rattle.job_checks.proofs.HandedRows.{unchanged_then}
-use Rattle.job_archives.proofs.CopyLemmas.{same_made}
+use Rattle.job_archives.specs.Copies.{IsSameJob, JobDiffers, Tells}
+use Rattle.job_archives.specs.Parts.{is_theirs}
+use Rattle.job_archives.proofs.CopyLemmas.{told_of_each, told_before}
 use Rattle.job_archives.proofs.comparing.compare_all.Goals as goal
 
 pub returns-clause-read : goal.returns-clause-read
@@ -22,12 +28,19 @@ returns-clause-read g c clean copied ours same =
     let each = c.in_ok-other.ensures.read j.0.0.is_open k.0.0.is_open clean copied (subst (λ (db : Database). db.schema ≡ bureau_schema) (sym file.0.now_is) ours) (subst (λ (db : Database). db.schema ≡ bureau_schema) (sym copy.0.now_is) same) in (
       unchanged_then _ _ _ file each.0,
       unchanged_then _ _ _ copy each.1,
-      λ one two none.
+      λ one two.
           let was_one = subst IsBureaus (sym v.0.0.now_is) one in
           let was_two = subst IsBureaus (sym w.0.0.now_is) two in
           let versions = sym c.deref.ensures.value ∙ c.are_same.ensures.0 c.if-not-are_same.false ∙ c.deref-2.ensures.value in
-          let jobs = sym c.deref-3.ensures.value ∙ c.are_same-2.ensures.0 c.if-not-are_same-2.false ∙ c.deref-4.ensures.value in
-          same_made _ _ _ _ _ _ _ _ _ file.0.now_is copy.0.now_is (v.1 one) (w.1 two) versions
-          (j.1 was_one ∙ ap (λ (db : Database). cells (db.trees 1)) v.0.0.now_is) (k.1 was_two ∙ ap (λ (db : Database). cells (db.trees 1)) w.0.0.now_is) jobs c.as_slice.ensures.value
-          (each.2 (subst IsBureaus (sym file.0.now_is) one) (subst IsBureaus (sym copy.0.now_is) two) none),
+          let theirs = sym c.as_slice-theirs.ensures.value ∙ c.are_theirs.ensures.0 c.if-not-are_theirs.false ∙ ap (filter (is_theirs c.args.customers)) c.deref-3.ensures.value in
+          let j_is = j.1 was_one ∙ ap (λ (db : Database). cells (db.trees 1)) v.0.0.now_is in
+          let k_is = k.1 was_two ∙ ap (λ (db : Database). cells (db.trees 1)) w.0.0.now_is in
+          let file_db = (state g.S.Store c.args.first.now.conn.now).now.trees in
+          let copy_db = (state g.T.Store c.args.second.now.conn.now).now.trees in
+          let told = told_before (λ (db other : Trees). AllByRecursion (IsSameJob db other) c.as_slice-theirs.result.now) _ _ _ _ c.in_ok-other.other file.0.now_is copy.0.now_is one two each.2 in
+          record {
+            jobs = ap length (c.as_slice-theirs.ensures.value ∙ k_is);
+            other = told_of_each c.args.customers _ _ _ _ (v.1 one) (w.1 two) versions (sym k_is ∙ theirs ∙ ap (filter (is_theirs c.args.customers)) j_is) c.in_ok-other.other
+                (subst (λ (rows : List Row). Tells (AllByRecursion (IsSameJob file_db copy_db) rows) (JobDiffers file_db copy_db) c.in_ok-other.other) (c.as_slice-theirs.ensures.value ∙ k_is) told);
+          },
     )

@@ -2,11 +2,12 @@ use Rattle.std.proofs.Common.{◌≡◌, ◌++◌, [], ◌∷◌, List, Option, 
 use Rattle.std.proofs.lemmas.List.{take_more}
 use Rattle.std.specs.List.{AllByRecursion}
 use Rattle.sqlite.specs.Effect.{Database}
+use Rattle.sqlite.specs.Tree.{Trees}
 use Rattle.ledger_tables.specs.Schema.{bureau_schema}
 use Rattle.job_checks.specs.declared.reports.Table.{Table}
 use Rattle.job_checks.proofs.HandedRows.{unchanged_still, unchanged_then}
-use Rattle.job_archives.specs.Copies.{IsSameJob}
-use Rattle.job_archives.proofs.CopyLemmas.{all_and_one, same_before}
+use Rattle.job_archives.specs.Copies.{HaveSameJob, IsSameJob, JobDiffers, Tells}
+use Rattle.job_archives.proofs.CopyLemmas.{all_and_one, told_before}
 use Rattle.job_archives.proofs.comparing.compare_each.Goals as goal
 
 pub loop-job-init : goal.loop-job-init
@@ -42,7 +43,8 @@ loop-job-preserved g c =
             unchanged_then _ _ _ before.0 here.0,
             unchanged_then _ _ _ before.1 here.1,
             λ a b.
-                let found = same_before _ _ _ _ _ _ one two a b (λ first second. here.2 first second (subst (λ (o : Option Table). IsNone o) (sym c.in_default.is) refl)) in
+                let found = subst (Tells (HaveSameJob _ _ c.in_ok-name.name.customer.now c.in_ok-name.name.number) (JobDiffers _ _)) c.in_default.is
+                (told_before (λ (db other : Trees). HaveSameJob db other c.in_ok-name.name.customer.now c.in_ok-name.name.number) _ _ _ _ c.in_ok-told.told one two a b here.2) in
                 subst (AllByRecursion (IsSameJob _ _)) (sym (take_more rows i row c.loop-job-test.true ∙ ap (λ x. take i rows ++ x ∷ []) (sym c.job-item.is)))
                 (all_and_one (IsSameJob _ _) (take i rows) row (before.2 a b) (c.in_ok-name.name.customer.now, c.in_ok-name.name.number, c.in_ok-name.ensures.named.0, c.in_ok-name.ensures.named.1, found)),
           );
