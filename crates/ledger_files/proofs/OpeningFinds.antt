@@ -1,5 +1,5 @@
 -- What an open finds.
-use Rattle.std.proofs.Common.{◌≡◌, inl, inr, ℕ, IsTrue, Err, refl, sym, ap, ap₂, subst, ◌∙◌}
+use Rattle.std.proofs.Common.{◌≡◌, inl, inr, ℕ, IsTrue, refl, sym, ap, ap₂, subst, ◌∙◌}
 use Rattle.sqlite.specs.Tree.{Trees}
 use Rattle.sqlite.specs.Effect.{Database, IsDatabase}
 use Rattle.sqlite.specs.State.{State, Opens, IsLive}
@@ -7,9 +7,6 @@ use Rattle.sqlite_catalog.specs.Listing.{Lists}
 use Rattle.sqlite_catalog.proofs.ReadLemmas.{lists_once}
 use Rattle.sqlite_trees.specs.Objects.{catalog_tree}
 use Rattle.ledger_tables.specs.Schema.{bureau_schema}
-use Rattle.ledger_tables.specs.Versions.{IsAnswer, IsKnown}
-use Rattle.ledger_tables.specs.declared.openings.OpenFault.{OpenFault}
-use Rattle.ledger_tables.specs.declared.openings.OpenFault.TheVariants.{NoMemory, Store, NotABureau, Old}
 use Rattle.office.specs.Office.{Office}
 use Rattle.ledger.specs.Adopting.{IsUntouched}
 use Rattle.ledger.specs.Older.{LeftOf, RowsOf, StandsOf, schema_of}

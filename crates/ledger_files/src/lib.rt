@@ -10,7 +10,9 @@
 //! rounds make the chain of the theorem of stops. [`init`] makes the first file.
 //! [`look_into`] opens a file to look into its tables ([`Look`]), and leaves it as it was. [`copy`]
 //! copies it, with its log, into one new file, which gets its name if a [`Comparison`] finds it the
-//! same. [`stop`] returns the store as a crash at that moment leaves it.
+//! same. [`part`] makes a new bureau's file of a part of it ([`Filling`]), and [`join`] one of two
+//! files ([`Joining`]), each with a comparison before the name. [`stop`] returns the store as a
+//! crash at that moment leaves it.
 //!
 //! [`migrate`] raises the file at a path to this program's version. [`migrate_from`] opens it and
 //! raises its tables; its connection is then closed ([`close_migrated`], by [`close_connection`]),
@@ -20,26 +22,34 @@
 
 mod closed;
 mod closing;
+mod copy_faults;
 mod copying;
+mod joining;
 mod kept;
 mod looking;
 mod making;
 mod migrating;
+mod new_files;
 mod opening;
+mod parting;
 mod places;
 mod rounds;
+mod sources;
 mod undoing;
 mod unfinished;
 mod working;
 
 pub use closed::Closed;
 pub use closing::{close, close_connection};
-pub use copying::{Comparison, CopyFault, copy};
+pub use copy_faults::CopyFault;
+pub use copying::{Comparison, copy};
+pub use joining::{Joining, join};
 pub use kept::Kept;
 pub use looking::{Look, look_into};
 pub use making::init;
 pub use migrating::{Migrated, close_migrated, migrate, migrate_from};
 pub use opening::open_from;
+pub use parting::{Filling, part};
 pub use rounds::{finish, leave, open_and_work, stop};
 pub use unfinished::Unfinished;
 pub use working::{Work, with_bureau};

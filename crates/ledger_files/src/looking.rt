@@ -7,12 +7,9 @@ ghost use Rattle.sqlite.specs.View.{IsClean};
 ghost use Rattle.office.specs.Office.{Office};
 ghost use Rattle.ledger.specs.Standing.{LeftAs, Stands};
 
-use crate::kept::Kept;
-use crate::opening::open_from;
-use crate::places::Place;
-use crate::working::let_go;
+use crate::sources::Source;
 use ledger_tables::OpenFault;
-use sqlite::{Alter, Connection, Leftover, Unknown};
+use sqlite::{Alter, Connection};
 use std::alloc::Global;
 
 /// A look into the tables of a bureau, whatever its store is. It keeps what it has seen.
@@ -35,17 +32,12 @@ pub fn look_into<L: Look>(rt: &HostRuntime, path: &str, look_at: &mut L) -> Resu
     ensures looked { OnOk result (L.looked look_at.old look_at.new) }
     ensures idle { OnErr result (look_at.new ≡ look_at.old) }
 {
-    let place = Place::find(rt, path)?;
-    let log = place.log_length(rt);
-    match open_from(rt, &place.file, Unknown) {
-        Ok(bureau) => {
+    match Source::open(rt, path) {
+        Ok((source, bureau)) => {
             let store = look_at.look(rt.alloc(), bureau.into_connection());
-            place.restore_log(rt, &Kept::Left(Leftover::Store(store)), log);
+            source.release(rt, store);
             Ok(())
         }
-        Err((fault, kept)) => {
-            drop(let_go(rt, kept, &place, log));
-            Err(fault)
-        }
+        Err(fault) => Err(fault),
     }
 }

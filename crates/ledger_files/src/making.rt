@@ -1,13 +1,14 @@
 //! Creating a new bureau's file.
 
 ghost use Rattle.std.specs.Prelude.{◌≡◌, [], IfErr, IfOk};
+ghost use Rattle.sqlite.specs.Files.{file_state};
 ghost use Rattle.sqlite.specs.Held.{state};
 ghost use Rattle.sqlite.specs.State.{HasCleanDisk, IsLive, Opens};
 ghost use Rattle.sqlite.specs.WalFiles.{image_at};
 ghost use Rattle.ledger.specs.Standing.{Stands};
 ghost use Rattle.ledger_tables.specs.Disks.{StaysClean};
 ghost use Rattle.ledger_tables.specs.Versions.{IsKnown};
-ghost use Rattle.ledger_files.specs.Making.{IsFirst, IsWithoutTables};
+ghost use Rattle.ledger_files.specs.Making.{AreEmpty, IsFirst, IsWithoutTables};
 
 use crate::closed::Closed;
 use crate::closing::close_connection;
@@ -15,7 +16,7 @@ use crate::opening::store_fault_of;
 use crate::places::{MODE, Part, beside, is_free, remove_second_name, sync_folder_of};
 use ledger::Bureau;
 use ledger_tables::OpenFault;
-use sqlite::{Alter, Connection, FileFrom, Start};
+use sqlite::{Alter, Connection, FileFrom, FileStore, Start};
 use std::alloc::Global;
 use std::fs;
 
@@ -36,6 +37,26 @@ fn created<S: Alter + Drop>(
     }
 }
 
+/// Opens the empty file at a path, and makes the tables of a bureau without jobs in it.
+pub(crate) fn open_new<S: Start>(
+    rt: &HostRuntime,
+    path: &str,
+    start: S,
+) -> Result<Connection<FileStore<FileFrom<S>>>, OpenFault>
+    ensures first { IfOk result (λ conn. HasCleanDisk (file_state conn)
+        → AreEmpty (image_at S.Start) → Stands (file_state conn) []) }
+    ensures known { IfErr result IsKnown }
+{
+    let conn = match Connection::open_from(rt, path, false, start) {
+        Ok(conn) => conn,
+        Err((error, _left)) => return Err(store_fault_of(error)),
+    };
+    match created(rt.alloc(), conn) {
+        Ok(conn) => Ok(conn),
+        Err((fault, _conn)) => Err(fault),
+    }
+}
+
 /// Creates a bureau in the empty file at a path, and closes it, so that all of it is in this one
 /// file.
 fn make_closed<S: Start>(
@@ -46,13 +67,9 @@ fn make_closed<S: Start>(
     ensures first { IfOk result (IsFirst (image_at S.Start)) }
     ensures known { IfErr result IsKnown }
 {
-    let conn = match Connection::open_from(rt, path, false, start) {
+    let conn = match open_new(rt, path, start) {
         Ok(conn) => conn,
-        Err((error, _left)) => return Err(store_fault_of(error)),
-    };
-    let conn = match created(rt.alloc(), conn) {
-        Ok(conn) => conn,
-        Err((fault, _conn)) => return Err(fault),
+        Err(fault) => return Err(fault),
     };
     match close_connection(conn) {
         Ok(closed) => Ok(closed),

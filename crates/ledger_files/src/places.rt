@@ -13,9 +13,9 @@ use crate::undoing::Undoing;
 use ledger_tables::OpenFault;
 pub(crate) use parts::{Part, remove_second_name};
 use sqlite_disk::Disk;
-use std::fs::{File, OpenOptions};
+use std::fs::{File, Metadata, OpenOptions};
 use std::io::{ErrorKind, Read};
-use std::os::unix::fs::OpenOptionsExt;
+use std::os::unix::fs::{MetadataExt, OpenOptionsExt};
 use std::{fs, io};
 
 /// Who may read and write a new file: its owner, and all others may read it.
@@ -184,6 +184,19 @@ fn remove(rt: &HostRuntime, path: &str) {
 fn cut(rt: &HostRuntime, path: &str, length: u64) {
     if let Ok(file) = OpenOptions::new().write(true).open(rt, path) {
         let _ = file.set_len(length);
+    }
+}
+
+/// Whether these are of one file, under whatever names.
+fn is_one_file(one: &Metadata, other: &Metadata) -> bool {
+    one.dev() == other.dev() && one.ino() == other.ino()
+}
+
+/// Whether the files at two paths are one, by links or by two names.
+pub(crate) fn are_one_file(rt: &HostRuntime, first: &str, second: &str) -> bool {
+    match (fs::metadata(rt, first), fs::metadata(rt, second)) {
+        (Ok(one), Ok(other)) => is_one_file(&one, &other),
+        _ => false,
     }
 }
 

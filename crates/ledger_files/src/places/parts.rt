@@ -3,7 +3,7 @@
 ghost use Rattle.std.specs.Prelude.{IfErr};
 ghost use Rattle.ledger_tables.specs.Versions.{IsKnown};
 
-use super::{Place, fault_of, is_free, make_file, remove};
+use super::{Place, fault_of, is_free, is_one_file, make_file, remove};
 use ledger_tables::OpenFault;
 use std::fs;
 use std::fs::Metadata;
@@ -61,8 +61,8 @@ fn part_name(rt: &HostRuntime, path: &str, number: u16) -> Result<String, OpenFa
 /// Whether this is what is at a path.
 fn is_at(rt: &HostRuntime, file: &Metadata, path: &str) -> bool {
     match fs::symlink_metadata(rt, path) {
-        Ok(found) if found.dev() == file.dev() => found.ino() == file.ino(),
-        _ => false,
+        Ok(found) => is_one_file(file, &found),
+        Err(_) => false,
     }
 }
 

@@ -1,0 +1,34 @@
+//! Why a new file is not made of a bureau's.
+
+use crate::places::fault_of;
+use ledger_tables::OpenFault;
+use std::io;
+
+/// Why a new file is not made of a bureau's file, or of two.
+pub enum CopyFault {
+    /// The file, or the first of two, cannot be opened as a bureau's.
+    File(OpenFault),
+    /// The second file cannot be opened as a bureau's.
+    Second(OpenFault),
+    /// The two files are one.
+    OneFile,
+    /// The name of the new file is that of another file's log.
+    Name,
+    /// There is something at the path of the new file, or a log or a journal beside it.
+    Taken,
+    /// The new file cannot be made.
+    Copy(OpenFault),
+    /// The new file was not filled: what was to fill it has kept why not.
+    NotFilled,
+    /// The new file was made, and does not open as a bureau's.
+    Unread(OpenFault),
+    /// The new file was not found to be what it should be.
+    NotSame,
+}
+
+impl CopyFault {
+    /// The fault of an error while the new file is made.
+    pub(crate) fn of(error: &io::Error) -> CopyFault {
+        CopyFault::Copy(fault_of(error))
+    }
+}

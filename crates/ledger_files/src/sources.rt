@@ -1,0 +1,69 @@
+//! A bureau's file that is looked into, or that something is made of.
+
+use crate::copy_faults::CopyFault;
+use crate::kept::Kept;
+use crate::opening::open_from;
+use crate::places::{Place, copy_bytes};
+use crate::working::let_go;
+use ledger::Bureau;
+use ledger_tables::OpenFault;
+use sqlite::{FileFrom, FileStore, Leftover, Unknown};
+use sqlite_disk::Disk;
+use std::os::unix::fs::MetadataExt;
+use std::{fs, io};
+
+/// Who may read and write a file, in its mode.
+const ACCESS: u32 = 0o777;
+
+/// Its owner may read and write it, in a file's mode.
+const OWNED: u32 = 0o600;
+
+/// A bureau's file that is to be after it what it was.
+#[derive(Drop)]
+pub(crate) struct Source {
+    place: Place,
+    /// The length that its log had before it was opened, if there was one.
+    log: Option<u64>,
+}
+
+impl Source {
+    /// Opens the bureau's file at a path. From then on no other program has it. If it cannot be
+    /// opened, its log becomes what it was.
+    pub(crate) fn open(
+        rt: &HostRuntime,
+        path: &str,
+    ) -> Result<(Source, Bureau<FileStore<FileFrom<Unknown>>>), OpenFault> {
+        let place = Place::find(rt, path)?;
+        let log = place.log_length(rt);
+        match open_from(rt, &place.file, Unknown) {
+            Ok(bureau) => Ok((Source { place, log }, bureau)),
+            Err((fault, kept)) => {
+                drop(let_go(rt, kept, &place, log));
+                Err(fault)
+            }
+        }
+    }
+
+    /// Who may read and write the file, and its owner in any case.
+    pub(crate) fn mode(&self, rt: &HostRuntime) -> Result<u32, CopyFault> {
+        match fs::metadata(rt, self.place.file.as_str()) {
+            Ok(found) => Ok((found.mode() & ACCESS) | OWNED),
+            Err(error) => Err(CopyFault::of(&error)),
+        }
+    }
+
+    /// Copies the file, and its log if it had one, to another place, whose log is to have a mode.
+    pub(crate) fn copy_to(&self, rt: &HostRuntime, to: &Place, mode: u32) -> io::Result<()> {
+        copy_bytes(rt, &self.place.file, &to.file)?;
+        match self.log {
+            Some(_) => self.place.copy_log(rt, to, mode),
+            None => Ok(()),
+        }
+    }
+
+    /// Lets the file go. Its log becomes what it was while the file is still locked.
+    pub(crate) fn release<D: Disk + Drop>(self, rt: &HostRuntime, store: FileStore<D>) {
+        let kept = Kept::Left(Leftover::Store(store));
+        self.place.restore_log(rt, &kept, self.log);
+    }
+}
