@@ -1,7 +1,7 @@
 -- the program's arguments
 use Rattle.std.specs.Prelude.{[], ◌∷◌, codes}
 use Rattle.command_line.specs.Programs.{Program}
-use Rattle.command_line.specs.declared.tables.Kind.TheVariants.{Value, Further, Setting}
+use Rattle.command_line.specs.declared.tables.Kind.TheVariants.{Value, Further, Several, Flag, Setting}
 use Rattle.operator.specs.declared.subcommands.Subcommand.{Subcommand}
 use Rattle.operator.specs.declared.subcommands.Subcommand.TheVariants as name
 
@@ -22,6 +22,19 @@ operator = record {
         codes "copy",
         (codes "FILE", Value) ∷ (codes "NEW", Value) ∷ [],
         codes "copy FILE NEW",
+      )
+      ∷ (
+        name.Part,
+        codes "part",
+        (codes "FILE", Value) ∷ (codes "NEW", Value) ∷ (codes "others", Flag)
+            ∷ (codes "CUSTOMER", Several) ∷ [],
+        codes "part FILE NEW [--others] CUSTOMER..",
+      )
+      ∷ (
+        name.Join,
+        codes "join",
+        (codes "FIRST", Value) ∷ (codes "SECOND", Value) ∷ (codes "NEW", Value) ∷ [],
+        codes "join FIRST SECOND NEW",
       )
       ∷ (
         name.Archive,

@@ -1,7 +1,7 @@
 -- the tasks that arguments ask for
-use Rattle.std.specs.Prelude.{ℕ, ◌≡◌, List, codes}
-use Rattle.clap.specs.Words.{Row, Text, first_of}
-use Rattle.command_line.specs.Arguments.{HasArgument, MayHaveArgument, ReadsIf, ReadsOr}
+use Rattle.std.specs.Prelude.{ℕ, ◌≡◌, List, [], codes, map, unwrap_or}
+use Rattle.clap.specs.Words.{Row, Text, all_of, first_of}
+use Rattle.command_line.specs.Arguments.{HasArgument, MayHaveArgument, ReadsIf, ReadsOr, has_flag}
 use Rattle.command_line.specs.Programs.{AsksFor, Wish, for_help, for_subcommand, for_version}
 use Rattle.operator.specs.Printed.{page_of, version_text}
 use Rattle.operator.specs.Subcommands.{operator}
@@ -9,7 +9,7 @@ use Rattle.operator.specs.Values.{IsUpTo}
 use Rattle.operator.specs.declared.subcommands.Subcommand.{Subcommand}
 use Rattle.operator.specs.declared.subcommands.Subcommand.TheVariants as name
 use Rattle.operator.specs.declared.tasks.Task.{Task}
-use Rattle.operator.specs.declared.tasks.Task.TheVariants.{Show, Check, Jobs, Copy, Archive, Work, Watch}
+use Rattle.operator.specs.declared.tasks.Task.TheVariants.{Show, Check, Jobs, Copy, Part, Join, Archive, Work, Watch}
 use Rattle.operator.specs.declared.tasks.Rounds.{Rounds}
 
 -- the task of `check`
@@ -28,6 +28,21 @@ abbrev pub WantsCopy : List Row → Task → Type 0
 WantsCopy found (Copy file new) = HasArgument (codes "FILE") found file.now
     × HasArgument (codes "NEW") found new.now
 WantsCopy found other = ⊥
+
+-- the task of `part`: of the customers who are named, or with `--others` of all others
+abbrev pub WantsPart : List Row → Task → Type 0
+WantsPart found (Part file new customers others) = HasArgument (codes "FILE") found file.now
+    × HasArgument (codes "NEW") found new.now
+    × (map (λ name. name.now) customers.items ≡ unwrap_or (all_of (codes "CUSTOMER") found) [])
+    × (others ≡ has_flag (codes "others") found)
+WantsPart found other = ⊥
+
+-- the task of `join`
+abbrev pub WantsJoin : List Row → Task → Type 0
+WantsJoin found (Join first second new) = HasArgument (codes "FIRST") found first.now
+    × HasArgument (codes "SECOND") found second.now
+    × HasArgument (codes "NEW") found new.now
+WantsJoin found other = ⊥
 
 -- the task of `archive`
 abbrev pub WantsArchive : List Row → Task → Type 0
@@ -64,6 +79,8 @@ abbrev pub WantsTask : Subcommand → List Row → Task → Type 0
 WantsTask name.Check found task = WantsCheck found task
 WantsTask name.Jobs found task = WantsJobs found task
 WantsTask name.Copy found task = WantsCopy found task
+WantsTask name.Part found task = WantsPart found task
+WantsTask name.Join found task = WantsJoin found task
 WantsTask name.Archive found task = WantsArchive found task
 WantsTask name.Work found task = WantsWork found task
 WantsTask name.Watch found task = WantsWatch found task

@@ -12,6 +12,9 @@ operator: what the operator of a bureau does, beside the bureau's own program.
   operator check FILE              runs each job of a bureau's file again, and compares
   operator jobs FILE [CUSTOMER]    lists the jobs of a bureau's file
   operator copy FILE NEW           writes a whole copy of a bureau's file, and compares it
+  operator part FILE NEW CUSTOMER..
+                                   writes a new bureau's file with these customers' jobs
+  operator join FIRST SECOND NEW   writes a new bureau's file with the jobs of two
   operator archive FILE FOLDER     writes each job's decks, cards and lines into a folder
   operator work PORT [OPTIONS]     runs the queue of a bureau that is served, in fair turns
   operator watch PORT [OPTIONS]    tells what comes into that queue, and what leaves it
@@ -69,6 +72,45 @@ The copy is one file with no log beside it. It is read back, and each row of it 
 that of FILE. FILE is not changed. If the copy is killed, NEW is not there, or it is whole; a file
 NEW.1.part beside it may be removed. Status 1: the copy differs, and there is none, or there was no
 memory. Status 3: FILE could not be used, or NEW could not be made or is there already.
+";
+
+/// The text that `part --help` prints.
+pub const PART_HELP: &str = "\
+operator part FILE NEW [--others] CUSTOMER..: writes a new bureau's file with these customers' jobs.
+
+FILE      the bureau's file, which no other program has open
+NEW       the new file; no file of this name may be there
+--others  NEW gets the jobs of all customers but these
+CUSTOMER  a customer who has a job in FILE
+
+example:
+  operator part my.bureau acme.bureau ACME
+  operator part my.bureau rest.bureau --others ACME
+
+NEW is a bureau's file with no log beside it. It has each job of these customers with its decks,
+starts, cards and lines, and the jobs are in the order that they have in FILE. It is read back, and
+each row of it is compared with that of FILE. FILE is not changed. If part is killed, NEW is not
+there, or it is whole; a file NEW.1.part beside it may be removed. Status 1: there is no job of a
+customer, or something differs, and there is no NEW; or there was no memory. Status 3: FILE could not
+be used, or NEW could not be made or is there already.
+";
+
+/// The text that `join --help` prints.
+pub const JOIN_HELP: &str = "\
+operator join FIRST SECOND NEW: writes a new bureau's file with the jobs of two.
+
+FIRST, SECOND  the bureaus' files, which no other program has open; no customer has jobs in both
+NEW            the new file; no file of this name may be there
+
+example:
+  operator join our.bureau acme.bureau new.bureau
+
+NEW is a bureau's file with no log beside it. It has each job of FIRST and then each of SECOND, with
+its decks, starts, cards and lines. It is read back, and each row of it is compared with that of its
+file. FIRST and SECOND are not changed. If join is killed, NEW is not there, or it is whole; a file
+NEW.1.part beside it may be removed. Status 1: a customer has jobs in both, or something differs, and
+there is no NEW; or there was no memory. Status 3: FIRST or SECOND could not be used, or they are one
+file, or NEW could not be made or is there already.
 ";
 
 /// The text that `archive --help` prints.
@@ -154,6 +196,8 @@ pub(crate) fn page(subcommand: Option<Subcommand>) -> &'static str
         Some(Subcommand::Check) => CHECK_HELP,
         Some(Subcommand::Jobs) => JOBS_HELP,
         Some(Subcommand::Copy) => COPY_HELP,
+        Some(Subcommand::Part) => PART_HELP,
+        Some(Subcommand::Join) => JOIN_HELP,
         Some(Subcommand::Archive) => ARCHIVE_HELP,
         Some(Subcommand::Work) => WORK_HELP,
         Some(Subcommand::Watch) => WATCH_HELP,

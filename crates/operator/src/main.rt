@@ -6,14 +6,19 @@
 //! `cases/check-operator`.
 #![tactic(auto)]
 
+ghost use Rattle.std.specs.Prelude.{◌≡◌, false, IsTrue};
+
 mod archiving;
 mod checking;
 mod clients;
+mod copy_faults;
 mod copying;
 mod faults;
 mod help;
 mod job_folders;
+mod joining;
 mod listing;
+mod parting;
 mod subcommands;
 mod tallies;
 mod tasks;
@@ -23,13 +28,17 @@ mod working;
 
 use crate::archiving::archive_file;
 use crate::checking::check_file;
+use crate::copy_faults::Made;
 use crate::copying::copy_file;
 use crate::faults::done_or_told;
+use crate::joining::join_files;
 use crate::listing::show_jobs;
+use crate::parting::part_file;
 use crate::tasks::{Task, task_of};
 use crate::watching::watch_queue;
 use crate::working::run_queue;
 use command_line::{Mistake, Status, Unfailing, exit_code, show_text, tell_mistake};
+use job_archives::Customers;
 use std::io::Write;
 use std::process::ExitCode;
 use std::{env, io};
@@ -37,6 +46,18 @@ use std::{env, io};
 /// The arguments of the process. The first is the program's name.
 fn arguments_given(rt: &HostRuntime) -> Result<Vec<String>, Mistake> {
     Ok(env::args(rt)?.collect(rt.alloc())?)
+}
+
+/// The customers of these names, or all others.
+fn chosen<'a>(names: &'a [&'a str], others: bool) -> Customers<'a>
+    ensures others { IsTrue others → result ≡ Customers.Others names.entry }
+    ensures named { others ≡ false → result ≡ Customers.Named names.entry }
+{
+    if others {
+        Customers::Others(names)
+    } else {
+        Customers::Named(names)
+    }
 }
 
 /// Does a task.
@@ -51,6 +72,20 @@ fn carry_out<W: Write, E: Write>(
         Task::Check { file } => check_file(rt, file, output, errors),
         Task::Jobs { file, customer } => show_jobs(rt, file, customer, output, errors),
         Task::Copy { file, new } => copy_file(rt, file, new, output, errors),
+        Task::Part {
+            file,
+            new,
+            customers,
+            others,
+        } => part_file(rt, file, new, chosen(&customers, others), output, errors),
+        Task::Join { first, second, new } => {
+            let made = Made {
+                file: first,
+                second,
+                new,
+            };
+            join_files(rt, made, output, errors)
+        }
         Task::Archive { file, folder } => archive_file(rt, file, folder, output, errors),
         Task::Work { port, rounds } => run_queue(rt, port, rounds, output, errors),
         Task::Watch {

@@ -11,6 +11,10 @@ pub enum Subcommand {
     Jobs,
     /// `copy`.
     Copy,
+    /// `part`.
+    Part,
+    /// `join`.
+    Join,
     /// `archive`.
     Archive,
     /// `work`.
@@ -20,7 +24,7 @@ pub enum Subcommand {
 }
 
 /// The subcommands.
-const SUBCOMMANDS: [Syntax<Subcommand>; 6] = [
+const SUBCOMMANDS: [Syntax<Subcommand>; 8] = [
     Syntax {
         subcommand: Subcommand::Check,
         name: "check",
@@ -38,6 +42,27 @@ const SUBCOMMANDS: [Syntax<Subcommand>; 6] = [
         name: "copy",
         arguments: &[("FILE", Kind::Value), ("NEW", Kind::Value)],
         usage: "copy FILE NEW",
+    },
+    Syntax {
+        subcommand: Subcommand::Part,
+        name: "part",
+        arguments: &[
+            ("FILE", Kind::Value),
+            ("NEW", Kind::Value),
+            ("others", Kind::Flag),
+            ("CUSTOMER", Kind::Several),
+        ],
+        usage: "part FILE NEW [--others] CUSTOMER..",
+    },
+    Syntax {
+        subcommand: Subcommand::Join,
+        name: "join",
+        arguments: &[
+            ("FIRST", Kind::Value),
+            ("SECOND", Kind::Value),
+            ("NEW", Kind::Value),
+        ],
+        usage: "join FIRST SECOND NEW",
     },
     Syntax {
         subcommand: Subcommand::Archive,

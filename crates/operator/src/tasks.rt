@@ -5,7 +5,7 @@ ghost use Rattle.command_line.specs.Arguments.{given};
 ghost use Rattle.command_line.specs.Plain.{texts};
 ghost use Rattle.command_line.specs.Programs.{AsksFor, wish_as};
 ghost use Rattle.operator.specs.Subcommands.{operator};
-ghost use Rattle.operator.specs.Tasks.{AreRounds, IsPortIn, Wants, WantsArchive, WantsCheck, WantsCopy, WantsJobs, WantsTask, WantsWatch, WantsWork};
+ghost use Rattle.operator.specs.Tasks.{AreRounds, IsPortIn, Wants, WantsArchive, WantsCheck, WantsCopy, WantsJobs, WantsJoin, WantsPart, WantsTask, WantsWatch, WantsWork};
 
 use crate::help::{VERSION, page};
 use crate::subcommands::{OPERATOR, Subcommand};
@@ -26,7 +26,7 @@ pub struct Rounds {
 }
 
 /// What the arguments ask for.
-#[derive(Clone, Copy)]
+#[derive(Drop)]
 pub enum Task<'a> {
     /// Print a text: a page of the help, or the version.
     Show(&'static str),
@@ -47,6 +47,26 @@ pub enum Task<'a> {
         /// The path of the file.
         file: &'a str,
         /// The path of the copy.
+        new: &'a str,
+    },
+    /// Write a new bureau's file, with the jobs that some customers have in a bureau's file.
+    Part {
+        /// The path of the file.
+        file: &'a str,
+        /// The path of the new file.
+        new: &'a str,
+        /// The names of customers.
+        customers: Vec<&'a str>,
+        /// Whether it gets the jobs of all other customers.
+        others: bool,
+    },
+    /// Write a new bureau's file, with the jobs of two.
+    Join {
+        /// The path of the first file.
+        first: &'a str,
+        /// The path of the second file.
+        second: &'a str,
+        /// The path of the new file.
         new: &'a str,
     },
     /// Write each job of a bureau's file into a folder of its own.
@@ -103,6 +123,32 @@ fn copy_task<'a>(found: &Found<'a>) -> Result<Task<'a>, Mistake<'a>>
     Ok(Task::Copy { file, new })
 }
 
+/// The task of a subcommand `part`.
+fn part_task<'a>(alloc: Global, found: &Found<'a>) -> Result<Task<'a>, Mistake<'a>>
+    ensures { IfOk result (WantsPart (given found.now)) }
+{
+    let file = found.needed("FILE")?;
+    let new = found.needed("NEW")?;
+    let customers = found.values(alloc, "CUSTOMER")?;
+    let others = found.has_flag("others");
+    Ok(Task::Part {
+        file,
+        new,
+        customers,
+        others,
+    })
+}
+
+/// The task of a subcommand `join`.
+fn join_task<'a>(found: &Found<'a>) -> Result<Task<'a>, Mistake<'a>>
+    ensures { IfOk result (WantsJoin (given found.now)) }
+{
+    let first = found.needed("FIRST")?;
+    let second = found.needed("SECOND")?;
+    let new = found.needed("NEW")?;
+    Ok(Task::Join { first, second, new })
+}
+
 /// The task of a subcommand `archive`.
 fn archive_task<'a>(found: &Found<'a>) -> Result<Task<'a>, Mistake<'a>>
     ensures { IfOk result (WantsArchive (given found.now)) }
@@ -155,13 +201,19 @@ fn watch_task<'a>(found: &Found<'a>) -> Result<Task<'a>, Mistake<'a>>
 }
 
 /// The task of a subcommand, by what clap found after its name.
-fn subcommand_task<'a>(subcommand: Subcommand, found: &Found<'a>) -> Result<Task<'a>, Mistake<'a>>
+fn subcommand_task<'a>(
+    alloc: Global,
+    subcommand: Subcommand,
+    found: &Found<'a>,
+) -> Result<Task<'a>, Mistake<'a>>
     ensures { IfOk result (WantsTask subcommand (given found.now)) }
 {
     match subcommand {
         Subcommand::Check => check_task(found),
         Subcommand::Jobs => jobs_task(found),
         Subcommand::Copy => copy_task(found),
+        Subcommand::Part => part_task(alloc, found),
+        Subcommand::Join => join_task(found),
         Subcommand::Archive => archive_task(found),
         Subcommand::Work => work_task(found),
         Subcommand::Watch => watch_task(found),
@@ -184,6 +236,6 @@ pub fn task_of<'a>(alloc: Global, arguments: &'a [String]) -> Result<Task<'a>, M
     match asked {
         Asked::Help(subcommand) => Ok(Task::Show(page(subcommand))),
         Asked::Version => Ok(Task::Show(VERSION)),
-        Asked::Subcommand(subcommand, found) => subcommand_task(subcommand, &found),
+        Asked::Subcommand(subcommand, found) => subcommand_task(alloc, subcommand, &found),
     }
 }
