@@ -10,8 +10,8 @@ ghost use Rattle.bureau_laws.specs.Customers.{replies_to};
 use job_archives::{joins_keep_customers, parts_keep_customers};
 
 /// The law of parts and joins: a customer gets the same replies to the same commands from a part of
-/// an office that has the customer as from the whole, and from two offices joined as from the one in
-/// which the customer has jobs, whatever other customers do.
+/// an office that has the customer as from the whole, and from two offices joined as from the one
+/// in which the customer has jobs, whatever other customers do.
 pub fn parts_keep_replies()
     ensures part { (customers : Customers) (customer : List ℕ) (commands : List Command)
         (office : Office) → is_among customers customer ≡ true →

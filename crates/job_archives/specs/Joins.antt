@@ -51,13 +51,14 @@ module _ (first second joined : Trees) where
   abbrev pub JoinDiffers : Table → Type 0
   JoinDiffers it = DiffersIn first joined HasBothJobs it ⊎ JobDiffers second joined it
 
-  -- this tells how many jobs the third has, and a table in which it is not made of both, if there is
-  -- one
+  -- this tells how many jobs the third has, and a table in which it is not made of both, if there
+  -- is one
   pub record ComparesBoth (told : Compared) : Type 0 where
     pub jobs : told.jobs ≡ length (cells (joined 1))
     pub other : Tells IsJoin JoinDiffers told.other
 
-module _ {S T U : Type 0} (g : Ghosts S) (h : Ghosts T) (k : Ghosts U) (old new : Held S) (was is : Held T) (before after : Held U) where
+module _ {S T U : Type 0} (g : Ghosts S) (h : Ghosts T) (k : Ghosts U) (old new : Held S)
+    (was is : Held T) (before after : Held U) where
   -- on Ok, if all three databases have a bureau's schema, they are unchanged, and if they are
   -- bureaus', this holds of their trees and of what was read
   abbrev pub ReadsThree : {X : Type 0} → Result X Fault → (Trees → Trees → Trees → X → Type 0)

@@ -38,10 +38,14 @@ is_theirs (Others names) row = is_text (λ name. not (is_named names.now name)) 
 -- has of an office is whole in that part, and the other part has nothing of it
 pub record IsWholeInOne (names : Bor (List (Bor (List ℕ)))) (customer : List ℕ) (office : Office)
     : Type 0 where
-  pub named : is_named names.now customer ≡ true → own customer (part_of (Named names) office) ≡ own customer office
-  pub not_others : is_named names.now customer ≡ true → own customer (part_of (Others names) office) ≡ []
-  pub others : is_named names.now customer ≡ false → own customer (part_of (Others names) office) ≡ own customer office
-  pub not_named : is_named names.now customer ≡ false → own customer (part_of (Named names) office) ≡ []
+  pub named : is_named names.now customer ≡ true
+      → own customer (part_of (Named names) office) ≡ own customer office
+  pub not_others : is_named names.now customer ≡ true
+      → own customer (part_of (Others names) office) ≡ []
+  pub others : is_named names.now customer ≡ false
+      → own customer (part_of (Others names) office) ≡ own customer office
+  pub not_named : is_named names.now customer ≡ false
+      → own customer (part_of (Named names) office) ≡ []
 
 -- ---- who has jobs
 
@@ -62,11 +66,13 @@ names_in (Others names) = names.now
 -- this is a name by which a customer without a job is chosen; none, if each has one
 abbrev pub IsUnknown : Customers → Office → Option (Bor (List ℕ)) → Type 0
 IsUnknown customers office None = AllByRecursion (λ it. HasJobs office it.now) (names_in customers)
-IsUnknown customers office (Some name) = Contains (names_in customers) name × HasNoJobs office name.now
+IsUnknown customers office (Some name) =
+    Contains (names_in customers) name × HasNoJobs office name.now
 
 -- this is a customer who has jobs in both; none, if each has none in the one or in the other
 abbrev pub IsShared : Office → Office → Option (List ℕ) → Type 0
-IsShared first second None = (customer : List ℕ) → HasNoJobs first customer ⊎ HasNoJobs second customer
+IsShared first second None =
+    (customer : List ℕ) → HasNoJobs first customer ⊎ HasNoJobs second customer
 IsShared first second (Some customer) = HasJobs first customer × HasJobs second customer
 
 -- whether a row begins with the name of this customer
@@ -82,8 +88,8 @@ abbrev pub IsUnknownAmong : List (Bor (List ℕ)) → List Row → Option (Bor (
 IsUnknownAmong names rows None = AllByRecursion (λ it. has_row it.now rows ≡ true) names
 IsUnknownAmong names rows (Some name) = Contains names name × (has_row name.now rows ≡ false)
 
--- this is a name with which rows of both begin; none, if with the name of no row of the first one of
--- the second begins
+-- this is a name with which rows of both begin; none, if no row of the second begins with the name
+-- of one of the first
 abbrev pub IsSharedAmong : List Row → List Row → Option (Bor (List ℕ)) → Type 0
 IsSharedAmong first second None = AllByRecursion (λ row. (customer : List ℕ)
     → column row 0 ≡ Text customer → has_row customer second ≡ false) first

@@ -184,10 +184,10 @@ pub(crate) fn both_sound(first: Result<(), Fault>, second: Result<(), Fault>) ->
 
 /// Compares a bureau's file with a copy of it, or of the part of it that these customers have: the
 /// rows of all tables, those of one job at a time. Returns a table whose rows are not the same, if
-/// there is one: that in which the first job that differs does so. If there is none, the copy stands
-/// for the customers' part of each office for which the file stands. Nothing is written, and the
-/// stores are handed back. Fails with 1 if there is no memory, and with 2 if a store fails, or a job
-/// has no name that a number and a text can be.
+/// there is one: that in which the first job that differs does so. If there is none, the copy
+/// stands for the customers' part of each office for which the file stands. Nothing is written, and
+/// the stores are handed back. Fails with 1 if there is no memory, and with 2 if a store fails, or
+/// a job has no name that a number and a text can be.
 pub fn compare_files<S: Alter + Drop, T: Alter + Drop>(
     file: Connection<S>,
     copy: Connection<T>,

@@ -221,9 +221,9 @@ fn put_all<S: Alter, T: Alter>(
 
 /// Puts the jobs of these customers, with all their rows, into a new bureau, in their order. The
 /// file is read only: a crash then leaves nothing of it that it might not have left before. Fails
-/// with 1 if there is no memory, and with 2 if a store fails, or a job has no name that a number and
-/// a text can be. No clause says which rows the new bureau has: `compare_files` and `compare_join`
-/// find them.
+/// with 1 if there is no memory, and with 2 if a store fails, or a job has no name that a number
+/// and a text can be. No clause says which rows the new bureau has: `compare_files` and
+/// `compare_join` find them.
 pub fn copy_jobs<S: Alter, T: Alter>(
     alloc: Global,
     file: &mut Connection<S>,

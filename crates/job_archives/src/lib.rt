@@ -13,9 +13,10 @@
 //!
 //! [`compare_files`] compares a bureau's file with a copy of it, or of the part that some
 //! [`Customers`] have, both of them open: the rows of all tables, those of one job at a time, and
-//! tells a table that is not the same. If there is none, the copy stands for that part of each office
-//! for which the file stands. [`compare_join`] does so with a file that is made of two others.
-//! [`copy_jobs`] fills such a file; [`first_unknown`] and [`first_shared`] say who has jobs.
+//! tells a table that is not the same. If there is none, the copy stands for that part of each
+//! office for which the file stands. [`compare_join`] does so with a file that is made of two
+//! others. [`copy_jobs`] fills such a file; [`first_unknown`] and [`first_shared`] say who has
+//! jobs.
 #![tactic(auto)]
 
 mod archives;
