@@ -1,3 +1,6 @@
+pub mod ConnectingLemmas
+pub mod DamageLemmas
+pub mod UndamagedLemmas
 pub mod ClosingLemmas
 pub mod OpeningFinds
 pub mod OpeningLeftovers

@@ -1,12 +1,10 @@
 -- What an open that failed hands back still holds the database.
-use Rattle.std.proofs.Common.{◌≡◌, ℕ, ◌≤◌, ◌%◌, true, false, List, refl, sym, ap, subst, ◌∙◌, inl, inr, arith, IsTrue, eq-eqb, ne_eqb, Bool, [], ◌∷◌, ap₂, if◌then◌else◌, Option, Some, None}
+use Rattle.std.proofs.Common.{◌≡◌, ℕ, ◌≤◌, ◌%◌, true, false, List, refl, sym, ap, subst, ◌∙◌, inl, inr, arith, IsTrue, eq-eqb, ne_eqb, Bool, if◌then◌else◌, Option, Some, None}
 use Rattle.std.specs.Prelude.{IfSome}
 use Rattle.std.proofs.lemmas.Bool.{cases_Bool, cases_eq}
 use Rattle.std.proofs.Math.Logic.{∥∥₁_map}
 use Rattle.sqlite_disk.specs.declared.Disk.{Ghosts}
 use Rattle.sqlite_disk.specs.declared.Files.{Files}
-use Rattle.sqlite_disk.specs.Events.{Event, settled, replay}
-use Rattle.sqlite_disk.specs.History.{MayLeave}
 use Rattle.sqlite_wal.specs.Recovery.{Image, IsIgnored}
 use Rattle.sqlite_wal.specs.Recovery as raw
 use Rattle.sqlite_wal.specs.Files.{outcomes}
@@ -18,7 +16,7 @@ use Rattle.sqlite_store.specs.declared.store.FileStore.{FileStore}
 use Rattle.sqlite_store.specs.FileStore.{recovers}
 use Rattle.sqlite_trees.specs.Tree.{Trees}
 use Rattle.sqlite.specs.Opening.{HoldsIn}
-use Rattle.sqlite.specs.Files.{FailsToOpenFiles, HoldsDatabase, IsCleanLeft, LeavesFiles, NamesSize, SaysSums, image_of}
+use Rattle.sqlite.specs.Files.{HoldsDatabase, IsCleanLeft, LeavesFiles, NamesSize, SaysSums, image_of}
 use Rattle.sqlite.specs.declared.error.Error.{Error}
 use Rattle.sqlite.specs.declared.file.Leftover.{Leftover}
 use Rattle.sqlite.specs.declared.file.Leftover.TheVariants as left
@@ -27,6 +25,8 @@ use Rattle.ledger.specs.Older.{LeftOf}
 use Rattle.ledger.specs.Standing.{LeftAs}
 use Rattle.ledger_tables.proofs.OpeningAnswers.{known_answer}
 use Rattle.ledger_tables.specs.Versions.{IsKnown}
+use Rattle.ledger_files.proofs.ConnectingLemmas.{both}
+use Rattle.ledger_files.specs.Connecting.{IsUnconnected}
 use Rattle.ledger_files.specs.Migrating.{AreNotMigrated}
 use Rattle.ledger_files.specs.Opening.{AreRefused, AreStoredWith, IsCleanKept, IsOutOfReach, LeftHolds, kept_of, store_fault}
 
@@ -110,17 +110,6 @@ module _ {D : Type 0} (g : Ghosts D) (files : Files D) (alone : (image : Image) 
   left_stands (left.Unopened now) leaves = unopened_stand now leaves
   left_stands (left.Store now) leaves = store_stands now leaves
 
--- a file that nothing was done to since it was opened is as it was then
-pub fresh_seen : (start : List ℕ) (events : List Event) (key : ℕ) → events ≡ settled key ∷ [] → (replay start events).seen ≡ start
-fresh_seen start events key is = ap (λ e. (replay start e).seen) is
-
-pub fresh_left : (mixes : Bool) (start : List ℕ) (events : List Event) (key : ℕ) → events ≡ settled key ∷ [] → (c : List ℕ)
-    → MayLeave mixes (replay start events).seen (replay start events).synced (replay start events).steps c → c ≡ start
-fresh_left mixes start events key is c may = elim (subst (λ e. MayLeave mixes (replay start e).seen (replay start e).synced (replay start e).steps c) is may) [ inl a ↦ a | inr b ↦ b ]
-
-pub both : (a b : Image) → a.log ≡ b.log → a.db ≡ b.db → a ≡ b
-both a b log db = ap₂ (λ x y. let i : Image = record { log = x; db = y } in i) log db
-
 -- what is left of an open of files that were as `start` says
 pub fresh_stands : {D : Type 0} {g : Ghosts D} (files : Files D) (rest : Leftover D g) → LeavesFiles files rest → (start : Image) → g.seen files.log ≡ start.log → g.seen files.db ≡ start.db
     → ((c : List ℕ) → g.may_leave files.log c → c ≡ start.log) → ((c : List ℕ) → g.may_leave files.db c → c ≡ start.db) → (has_sums : Bool) (Here : Trees → Type 0) → AreStoredWith has_sums start Here → LeftHolds has_sums rest Here
@@ -128,25 +117,11 @@ fresh_stands {D} {g} files rest leaves start log_seen db_seen log_left db_left h
     left_stands g files (λ image out. both _ _ (log_left image.log out.0 ∙ sym log_seen) (db_left image.db out.1 ∙ sym db_seen)) has_sums Here
     (subst (λ i. AreStoredWith has_sums i Here) (sym (both _ _ log_seen db_seen)) are) rest leaves
 
--- these files have been as this image says since they were opened
-pub record AreAsFound {D : Type 0} (g : Ghosts D) (start : Image) (files : Files D) : Type 0 where
-  pub seen : image_of g files ≡ start
-  pub log : (c : List ℕ) → g.may_leave files.log c → c ≡ start.log
-  pub db : (c : List ℕ) → g.may_leave files.db c → c ≡ start.db
-
-pub if_some : {A : Type 0} {P Q : A → Type 0} (x : Option A) → ((a : A) → P a → Q a) → IfSome x P → IfSome x Q
-if_some (Some a) f p = f a p
-if_some None f p = tt
-
 stored_is : (image : Image) (db : Trees) (held : HoldsDatabase image db) → AreStoredWith (is_summed held.0) image (λ d. d ≡ db)
 stored_is image db held = ∣ (let f : (d : Trees) × (h : HoldsDatabase image d) × (is_summed h.0 ≡ is_summed held.0) × (d ≡ db) = (db, held, refl, refl) in f) ∣₁
 
 module _ {D : Type 0} {g : Ghosts D} (start : Image) (error : Error) (known : IsKnown (store_fault error)) where
-  -- an open that failed leaves this of files that were as `start` says
-  abbrev pub IsLeftBy : Leftover D g → Type 0
-  IsLeftBy left = (files : Files D) × AreAsFound g start files × (IsCleanLeft left → FailsToOpenFiles files left error × LeavesFiles files left)
-
-  pub not_opened : (left : Option (Leftover D g)) → (left ≡ None → IsOutOfReach error) → IfSome left IsLeftBy → IsCleanKept (kept_of left) → AreRefused start (store_fault error) (kept_of left)
+  pub not_opened : (left : Option (Leftover D g)) → (left ≡ None → IsOutOfReach error) → IfSome left (IsUnconnected start error) → IsCleanKept (kept_of left) → AreRefused start (store_fault error) (kept_of left)
   not_opened (Some left) far cause clean =
       let files = cause.0 in
       let found = cause.1 in
@@ -169,7 +144,7 @@ module _ {D : Type 0} {g : Ghosts D} (start : Image) (error : Error) (known : Is
   }
 
   -- .. nor migrated
-  pub not_migrated : (left : Option (Leftover D g)) → (left ≡ None → IsOutOfReach error) → IfSome left IsLeftBy → IsCleanKept (kept_of left) → AreNotMigrated start (store_fault error) (kept_of left)
+  pub not_migrated : (left : Option (Leftover D g)) → (left ≡ None → IsOutOfReach error) → IfSome left (IsUnconnected start error) → IsCleanKept (kept_of left) → AreNotMigrated start (store_fault error) (kept_of left)
   not_migrated (Some left) far cause clean =
       let files = cause.0 in
       let found = cause.1 in

@@ -10,7 +10,7 @@ use Rattle.sqlite.specs.WalFiles.{outcomes}
 use Rattle.sqlite.specs.FileStore.{recovers}
 use Rattle.sqlite.specs.State.{State, HasCleanDisk}
 use Rattle.sqlite.specs.Effect.{Database, IsDatabase}
-use Rattle.sqlite.specs.Files.{HoldsDatabase, FailsToOpenFiles, IsOpened, file_state, image_of, over_files, IsCleanLeft}
+use Rattle.sqlite.specs.Files.{HoldsDatabase, IsOpened, file_state, image_of, over_files, IsCleanLeft}
 use Rattle.sqlite.specs.Held.{Held}
 use Rattle.sqlite.specs.Start.{FindsIn}
 use Rattle.sqlite.specs.declared.error.Error.{Error}
@@ -25,6 +25,7 @@ use Rattle.sqlite.specs.declared.file.Leftover.{Leftover}
 use Rattle.sqlite.specs.declared.file.Leftover.TheVariants as left
 use Rattle.office.specs.Office.{Office}
 use Rattle.ledger.specs.Standing.{LeftAs, Stands}
+use Rattle.ledger_files.specs.Connecting.{FailsToConnect}
 use Rattle.ledger_files.specs.declared.kept.Kept.{Kept}
 use Rattle.ledger_files.specs.declared.kept.Kept.TheVariants as kept
 
@@ -124,7 +125,7 @@ module _ {D : Type 0} {g : Ghosts D} where
   abbrev pub IsToldOf : Image → OpenFault → Kept D g → Type 0
   IsToldOf image fault (kept.Connection conn) = IsToldOpen image conn (Err fault)
   IsToldOf image fault (kept.Left rest) = (error : Error) × (files : Files D)
-      × (image_of g files ≡ image) × FailsToOpenFiles files rest error
+      × (image_of g files ≡ image) × FailsToConnect files rest error
       × (fault ≡ store_fault error)
   IsToldOf image fault kept.Nothing =
       (error : Error) × IsOutOfReach error × (fault ≡ store_fault error)

@@ -22,10 +22,14 @@
 
 mod closed;
 mod closing;
+mod connecting;
 mod copy_faults;
 mod copying;
+mod damage;
+mod damaged_log;
 mod joining;
 mod kept;
+mod laws;
 mod looking;
 mod making;
 mod migrating;
@@ -43,9 +47,12 @@ pub use closed::Closed;
 pub use closing::{close, close_connection};
 pub use copy_faults::CopyFault;
 pub use copying::{Comparison, copy};
+pub use damage::Damage;
+pub use damaged_log::DamagedLog;
 pub use joining::{Joining, join};
 pub use kept::Kept;
-pub use looking::{Look, look_into};
+pub use laws::stops_damage_no_log;
+pub use looking::{Look, find_log_damage, look_into};
 pub use making::init;
 pub use migrating::{Migrated, close_migrated, migrate, migrate_from};
 pub use opening::open_from;

@@ -7,9 +7,11 @@ ghost use Rattle.sqlite.specs.View.{IsClean};
 ghost use Rattle.office.specs.Office.{Office};
 ghost use Rattle.ledger.specs.Standing.{LeftAs, Stands};
 
+use crate::damaged_log::DamagedLog;
+use crate::places::Place;
 use crate::sources::Source;
 use ledger_tables::OpenFault;
-use sqlite::{Alter, Connection};
+use sqlite::{Alter, Connection, File, Unknown};
 use std::alloc::Global;
 
 /// A look into the tables of a bureau, whatever its store is. It keeps what it has seen.
@@ -40,4 +42,13 @@ pub fn look_into<L: Look>(rt: &HostRuntime, path: &str, look_at: &mut L) -> Resu
         }
         Err(fault) => Err(fault),
     }
+}
+
+/// Finds what of the log of the bureau's file at a path is damaged, if that can be told. Nothing is
+/// written.
+pub fn find_log_damage(rt: &HostRuntime, path: &str) -> Option<DamagedLog<File>> {
+    let place = Place::find(rt, path).ok()?;
+    place.log_length(rt)?;
+    let files = sqlite_std_file::open(rt, &place.file, Unknown).ok()?;
+    DamagedLog::find(rt.alloc(), place.into_log(), files)
 }

@@ -19,6 +19,7 @@ ghost use Rattle.ledger.specs.Migrating.{IsKeptOf, IsNoFaultOfVersion, IsRaised,
 ghost use Rattle.ledger.specs.Older.{LeftOf, StandsOf};
 ghost use Rattle.ledger.specs.Standing.{Stands};
 ghost use Rattle.ledger_files.specs.Closing.{StandsAlone};
+ghost use Rattle.ledger_files.specs.Damage.{IsDamaged};
 ghost use Rattle.ledger_files.specs.Migrating.{AreNotMigrated, IsMidway, IsMigrated, IsMigration, IsVersionIn, IsVersionOf};
 ghost use Rattle.ledger_files.specs.Opening.{HoldsOnly, IsAnswerFor, IsCleanKept};
 ghost use Rattle.ledger_files.specs.Rounds.{MayLeaveClosed};
@@ -26,6 +27,7 @@ ghost use Rattle.ledger_files.specs.Unfinished.{IsFoundAs, IsUnmigrated, fault_i
 
 use crate::closed::Closed;
 use crate::closing::close_connection;
+use crate::connecting::connect;
 use crate::kept::Kept;
 use crate::opening::handed_on;
 use crate::places::Place;
@@ -97,11 +99,13 @@ pub fn migrate_from<S: Start>(
     ensures alone { IfOk result (λ done. done.0 ≡ own_version → HasCleanDisk (file_state done.1)
         → (db : Trees) → HoldsDatabase (image_at S.Start) db
         → HoldsOnly (file_state done.1) db) }
+    ensures sound { IfOk result (λ done. HasCleanDisk (file_state done.1)
+        → ¬ IsDamaged (image_at S.Start).log) }
     ensures refused { IfErr result (λ e. IsCleanKept e.1
         → AreNotMigrated (image_at S.Start) e.0 e.1) }
     ensures told { IfErr result (λ e. IsNotOld e.0) }
 {
-    let conn = match Connection::open_from(rt, path, false, start) {
+    let conn = match connect(rt, path, start) {
         Ok(conn) => conn,
         Err((error, left)) => return Err(handed_on(error, left)),
     };

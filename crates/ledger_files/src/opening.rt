@@ -12,8 +12,10 @@ ghost use Rattle.ledger_tables.specs.Versions.{IsAnswer, IsKnown};
 ghost use Rattle.office.specs.Office.{Office};
 ghost use Rattle.ledger.specs.Adopting.{StandsStill, IsNoFaultOfTables, IsTold, handed, verdict};
 ghost use Rattle.ledger.specs.Standing.{LeftAs, Stands};
+ghost use Rattle.ledger_files.specs.Damage.{IsDamaged};
 ghost use Rattle.ledger_files.specs.Opening.{AreOf, AreRefused, HoldsOnly, IsAnswerFor, IsCleanKept, IsToldOpen, kept_of, store_fault};
 
+use crate::connecting::connect;
 use crate::kept::Kept;
 use ledger::Bureau;
 use ledger_tables::OpenFault;
@@ -85,9 +87,9 @@ pub(crate) fn handed_on<S: Start>(
 }
 
 /// Opens the file at a path as a bureau. Fails with 50 if it is not a bureau's or is of a later
-/// version, with 51 if it is of an earlier version, with 1 if there is no memory, and else with 2.
-/// The contents of the files are then handed back, as far as they were reached; after 50 and 51
-/// they hold what they held.
+/// version, with 51 if it is of an earlier version, with 1 if there is no memory, and else with 2;
+/// so it does where the log is damaged, to which nothing is written then. The contents of the files
+/// are then handed back, as far as they were reached; after 50 and 51 they hold what they held.
 pub fn open_from<S: Start>(
     rt: &HostRuntime,
     path: &str,
@@ -103,10 +105,12 @@ pub fn open_from<S: Start>(
         → IsToldOpen (image_at S.Start) bureau.conn (Ok tt)) }
     ensures holds { IfOk result (λ bureau. HasCleanDisk (file_state bureau.conn) → (db : Trees)
         → HoldsDatabase (image_at S.Start) db → HoldsOnly (file_state bureau.conn) db) }
+    ensures sound { IfOk result (λ bureau. HasCleanDisk (file_state bureau.conn)
+        → ¬ IsDamaged (image_at S.Start).log) }
     ensures refused { IfErr result (λ e. IsCleanKept e.1
         → AreRefused (image_at S.Start) e.0 e.1) }
 {
-    let conn = match Connection::open_from(rt, path, false, start) {
+    let conn = match connect(rt, path, start) {
         Ok(conn) => conn,
         Err((error, left)) => return Err(handed_on(error, left)),
     };

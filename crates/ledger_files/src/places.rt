@@ -75,6 +75,11 @@ impl Place {
         }
     }
 
+    /// Where the log is.
+    pub(crate) fn into_log(self) -> String {
+        self.log
+    }
+
     /// Removes the log of the files that are here. They were closed: they hold their database with
     /// the log and without it. They are still locked, so that no other program has this log.
     pub(crate) fn remove_log<D: Disk>(&self, rt: &HostRuntime, _closed: &Closed<D>) {

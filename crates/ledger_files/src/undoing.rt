@@ -9,7 +9,7 @@ const EMPTY_LOG: u64 = 41;
 const ADDED: u64 = 9;
 
 /// What is done to a log after an open that failed, so that it is again what it was before. No
-/// transaction is lost by it.
+/// transaction is lost by it: a log that is damaged is not opened.
 #[derive(Clone, Copy)]
 pub(crate) enum Undoing {
     /// Nothing.

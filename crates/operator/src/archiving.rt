@@ -2,7 +2,7 @@
 
 ghost use Rattle.std.specs.Prelude.{⊤};
 
-use crate::faults::{done_or_told, found, tell_fault};
+use crate::faults::{done_or_told, found, tell_unopened};
 use crate::job_folders::{Filed, file_job};
 use command_line::Status;
 use job_archives::files_of;
@@ -205,6 +205,6 @@ pub(crate) fn archive_file<W: Write, E: Write>(
     }
     match found(looked, walked) {
         Ok(walked) => done_or_told(tell_end(rt, &walked, counts, output), folder, errors),
-        Err(fault) => tell_fault(file, fault, errors),
+        Err(fault) => tell_unopened(rt, file, fault, errors),
     }
 }

@@ -2,7 +2,7 @@
 
 ghost use Rattle.std.specs.Prelude.{IsSome};
 
-use crate::faults::{found, tell_fault};
+use crate::faults::{found, tell_unopened};
 use command_line::Status;
 use job_checks::{Report, check, report_text};
 use ledger_files::{Look, look_into};
@@ -51,6 +51,6 @@ pub(crate) fn check_file<W: Write, E: Write>(
     let looked = look_into(rt, path, &mut look);
     match found(looked, look.checked) {
         Ok(report) => show(rt, &report, output),
-        Err(fault) => tell_fault(path, fault, errors),
+        Err(fault) => tell_unopened(rt, path, fault, errors),
     }
 }

@@ -1,6 +1,7 @@
 //! What is printed of a bureau's file that cannot be used, and of what failed.
 
 use command_line::Status;
+use ledger_files::{Damage, find_log_damage};
 use ledger_tables::OpenFault;
 use std::io;
 use std::io::Write;
@@ -28,6 +29,35 @@ pub(crate) fn tell_fault<E: Write>(
     };
     writeln!(errors, "{path}: {words}")?;
     Ok(status)
+}
+
+/// Prints why a bureau's file was not opened, and what of its log is damaged, if that can be told.
+pub(crate) fn tell_unopened<E: Write>(
+    rt: &HostRuntime,
+    path: &str,
+    fault: OpenFault,
+    errors: &mut E,
+) -> io::Result<Status> {
+    let status = tell_fault(path, fault, errors)?;
+    if let (OpenFault::Store, Some(log)) = (fault, find_log_damage(rt, path)) {
+        tell_damage(log.path(), log.damage(), errors)?;
+    }
+    Ok(status)
+}
+
+/// Prints what of a log is damaged, and what to do first.
+fn tell_damage<E: Write>(log: &str, damage: Damage, errors: &mut E) -> io::Result<()> {
+    match damage {
+        Damage::Header => write!(errors, "{log}: the header is damaged")?,
+        Damage::Commit { sound, frames } => {
+            let first = sound.saturating_add(1);
+            write!(
+                errors,
+                "{log}: damaged in the commit that begins at frame {first} of {frames}"
+            )?;
+        }
+    }
+    writeln!(errors, "; copy this log and its file before anything else")
 }
 
 /// The status of what was done. If it failed, the error is printed behind a name.

@@ -2,7 +2,7 @@
 
 ghost use Rattle.std.specs.Prelude.{IsSome};
 
-use crate::faults::{found, tell_fault};
+use crate::faults::{found, tell_unopened};
 use command_line::Status;
 use job_archives::list_jobs;
 use ledger_files::{Look, look_into};
@@ -48,6 +48,6 @@ pub(crate) fn show_jobs<W: Write, E: Write>(
             output.flush()?;
             Ok(Status::Done)
         }
-        Err(fault) => tell_fault(file, fault, errors),
+        Err(fault) => tell_unopened(rt, file, fault, errors),
     }
 }

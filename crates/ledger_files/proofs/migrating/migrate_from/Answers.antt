@@ -1,6 +1,5 @@
 use Rattle.std.proofs.Common.{◌≡◌, ◌⊎◌, ◌∙◌, ℕ, ap, arith, if◌then◌else◌, subst, sym}
 use Rattle.std.proofs.Math.Logic.{∥∥₁_elim, ∥∥₁_map}
-use Rattle.sqlite_disk.specs.Modelled.{start_of}
 use Rattle.sqlite.specs.Files.{file_state, HoldsDatabase}
 use Rattle.sqlite.specs.State.{HasCleanDisk}
 use Rattle.sqlite.specs.Tree.{Trees}
@@ -12,7 +11,7 @@ use Rattle.ledger.specs.Older.{LeftOf, StandsOf}
 use Rattle.ledger.specs.Standing.{LeftAs, Stands}
 use Rattle.ledger_files.specs.Migrating.{AreNotMigrated}
 use Rattle.ledger_files.specs.Opening.{HoldsOnly, IsCleanKept}
-use Rattle.ledger_files.proofs.OpeningLeftovers.{both, fresh_left, fresh_seen, if_some, not_migrated}
+use Rattle.ledger_files.proofs.OpeningLeftovers.{not_migrated}
 use Rattle.ledger_files.proofs.migrating.migrate_from.Goals as goal
 
 pub returns-in-Ok-raised-clause-raised : goal.returns-in-Ok-raised-clause-raised
@@ -42,6 +41,11 @@ returns-in-Ok-raised-clause-alone g c own clean db held =
     let early : HasCleanDisk (file_state c.in-Ok.conn) = omega (arith, c.in-Ok-raised.ensures.clean) in
     subst (λ t. HoldsOnly (file_state c.in-Ok-raised.done.1) t) ((c.in-Ok.ensures.found early).holds db held) (c.in-Ok-raised.ensures.alone own clean (c.in-Ok.ensures.opened early).0)
 
+pub returns-in-Ok-raised-clause-sound : goal.returns-in-Ok-raised-clause-sound
+returns-in-Ok-raised-clause-sound g c clean =
+    let early : HasCleanDisk (file_state c.in-Ok.conn) = omega (arith, c.in-Ok-raised.ensures.clean) in
+    c.in-Ok.ensures.sound early
+
 -- the files were opened, and not raised
 pub returns-in-Err-raised-clause-refused : goal.returns-in-Err-raised-clause-refused
 returns-in-Err-raised-clause-refused g c clean =
@@ -66,21 +70,10 @@ returns-in-Err-raised-clause-refused g c clean =
 -- the files were not opened
 pub returns-in-Err-clause-refused : goal.returns-in-Err-clause-refused
 returns-in-Err-clause-refused g c =
-    let first = g.S.Start in
+    let first = image_at g.S.Start in
     let known = subst (λ p. IsKnown p.0) c.handed_on.ensures.all c.handed_on.ensures.known in
-    subst (λ p. IsCleanKept p.1 → AreNotMigrated (image_at first) p.0 p.1) (sym c.handed_on.ensures.all)
-    (not_migrated (image_at first) c.in-Err.error known c.in-Err.left c.in-Err.ensures.unopened
-    (if_some c.in-Err.left (λ left it.
-    let log_start : start_of first it.0.log ≡ first.log = ap (λ b. if b then first.log else first.db) it.1.0 in
-    let db_start : start_of first it.0.db ≡ first.db = ap (λ b. if b then first.log else first.db) it.2.0 in (
-      it.0,
-      record {
-        seen = both _ _ (fresh_seen _ _ _ it.1.1 ∙ log_start) (fresh_seen _ _ _ it.2.1 ∙ db_start);
-        log = λ x may. fresh_left _ _ _ _ it.1.1 x may ∙ log_start;
-        db = λ x may. fresh_left _ _ _ _ it.2.1 x may ∙ db_start;
-      },
-      it.3,
-    )) c.in-Err.ensures.cause))
+    subst (λ p. IsCleanKept p.1 → AreNotMigrated first p.0 p.1) (sym c.handed_on.ensures.all)
+    (not_migrated first c.in-Err.error known c.in-Err.left c.in-Err.ensures.unreached c.in-Err.ensures.cause)
 
 pub returns-in-Err-raised-clause-told : goal.returns-in-Err-raised-clause-told
 returns-in-Err-raised-clause-told g c = c.in-Err-raised.ensures.known.0

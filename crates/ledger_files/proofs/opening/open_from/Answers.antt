@@ -1,6 +1,5 @@
 use Rattle.std.proofs.Common.{◌≡◌, subst, sym, ap, ◌∙◌, arith, if◌then◌else◌}
 use Rattle.std.proofs.Math.Logic.{∥∥₁_map, ∥∥₁_elim}
-use Rattle.sqlite_disk.specs.Modelled.{start_of}
 use Rattle.sqlite.specs.State.{HasCleanDisk}
 use Rattle.sqlite.specs.Tree.{Trees}
 use Rattle.sqlite.specs.Files.{file_state, HoldsDatabase}
@@ -8,7 +7,7 @@ use Rattle.ledger_tables.specs.Versions.{IsKnown}
 use Rattle.sqlite.specs.WalFiles.{image_at}
 use Rattle.ledger.specs.Standing.{LeftAs, Stands}
 use Rattle.ledger_files.specs.Opening.{AreRefused, HoldsOnly, IsCleanKept}
-use Rattle.ledger_files.proofs.OpeningLeftovers.{both, fresh_seen, fresh_left, if_some, not_opened}
+use Rattle.ledger_files.proofs.OpeningLeftovers.{not_opened}
 use Rattle.ledger_files.proofs.opening.open_from.Goals as goal
 
 pub returns-in-Ok-adopted-clause-found : goal.returns-in-Ok-adopted-clause-found
@@ -35,6 +34,11 @@ returns-in-Ok-adopted-clause-holds g c clean db held =
     let early : HasCleanDisk (file_state c.in-Ok.conn) = omega (arith, c.in-Ok-adopted.ensures.clean) in
     subst (λ t. HoldsOnly (file_state c.in-Ok-adopted.bureau.conn) t) ((c.in-Ok.ensures.found early).holds db held) (c.in-Ok-adopted.ensures.holds clean (c.in-Ok.ensures.opened early).0)
 
+pub returns-in-Ok-adopted-clause-sound : goal.returns-in-Ok-adopted-clause-sound
+returns-in-Ok-adopted-clause-sound g c clean =
+    let early : HasCleanDisk (file_state c.in-Ok.conn) = omega (arith, c.in-Ok-adopted.ensures.clean) in
+    c.in-Ok.ensures.sound early
+
 -- the files were opened, and are no bureau's
 pub returns-in-Err-adopted-clause-refused : goal.returns-in-Err-adopted-clause-refused
 returns-in-Err-adopted-clause-refused g c clean =
@@ -56,18 +60,7 @@ returns-in-Err-adopted-clause-refused g c clean =
 -- the files were not opened
 pub returns-in-Err-clause-refused : goal.returns-in-Err-clause-refused
 returns-in-Err-clause-refused g c =
-    let first = g.S.Start in
+    let first = image_at g.S.Start in
     let known = subst (λ p. IsKnown p.0) c.handed_on.ensures.all c.handed_on.ensures.known in
-    subst (λ p. IsCleanKept p.1 → AreRefused (image_at first) p.0 p.1) (sym c.handed_on.ensures.all)
-    (not_opened (image_at first) c.in-Err.error known c.in-Err.left c.in-Err.ensures.unopened
-    (if_some c.in-Err.left (λ left it.
-    let log_start : start_of first it.0.log ≡ first.log = ap (λ b. if b then first.log else first.db) it.1.0 in
-    let db_start : start_of first it.0.db ≡ first.db = ap (λ b. if b then first.log else first.db) it.2.0 in (
-      it.0,
-      record {
-        seen = both _ _ (fresh_seen _ _ _ it.1.1 ∙ log_start) (fresh_seen _ _ _ it.2.1 ∙ db_start);
-        log = λ x may. fresh_left _ _ _ _ it.1.1 x may ∙ log_start;
-        db = λ x may. fresh_left _ _ _ _ it.2.1 x may ∙ db_start;
-      },
-      it.3,
-    )) c.in-Err.ensures.cause))
+    subst (λ p. IsCleanKept p.1 → AreRefused first p.0 p.1) (sym c.handed_on.ensures.all)
+    (not_opened first c.in-Err.error known c.in-Err.left c.in-Err.ensures.unreached c.in-Err.ensures.cause)
