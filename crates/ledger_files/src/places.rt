@@ -45,6 +45,7 @@ impl Place {
             Err(error) => return Err(fault_of(&error)),
         };
         look(rt, &place.file)?;
+        look_at_folder(rt, &place.file)?;
         remove_second_name(rt, &place.file)?;
         Ok(place)
     }
@@ -143,6 +144,17 @@ fn look(rt: &HostRuntime, path: &str) -> Result<(), OpenFault>
     }
 }
 
+/// Checks that the folder of the file at a path can be read: an open that finds that it cannot would
+/// leave an empty log.
+fn look_at_folder(rt: &HostRuntime, path: &str) -> Result<(), OpenFault>
+    ensures { IfErr result IsNotOld }
+{
+    match open_folder_of(rt, path) {
+        Ok(_) => Ok(()),
+        Err(error) => Err(fault_of(&error)),
+    }
+}
+
 /// The fault where a path cannot be used: 1 for want of memory, else 2.
 pub(crate) fn fault_of(error: &io::Error) -> OpenFault
     ensures told { result ≡ path_fault (error_kind error.now) }
@@ -220,12 +232,16 @@ pub(crate) fn sync(rt: &HostRuntime, path: &str) -> io::Result<u64> {
     Ok(file.metadata()?.len())
 }
 
+/// Opens the folder of the file at a path.
+fn open_folder_of(rt: &HostRuntime, path: &str) -> io::Result<File> {
+    let mut folder = fs::canonicalize(rt, path)?;
+    folder.pop();
+    fs::open(rt, folder.as_str())
+}
+
 /// Has the disk keep the names of a folder: that of the file at a path.
 pub(crate) fn sync_folder_of(rt: &HostRuntime, path: &str) {
-    if let Ok(mut folder) = fs::canonicalize(rt, path) {
-        folder.pop();
-        if let Ok(folder) = fs::open(rt, folder.as_str()) {
-            let _ = folder.sync_all();
-        }
+    if let Ok(folder) = open_folder_of(rt, path) {
+        let _ = folder.sync_all();
     }
 }
