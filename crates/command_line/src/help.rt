@@ -28,7 +28,7 @@ SWITCHES  the sense switches that are on: rising letters of ABCDEFG, as A or BDG
 FILE      a bureau's file: it keeps all jobs, what was punched and printed, and how far each ran;
           after a stop, FILE-wal beside it is a part of it
 CUSTOMER  1 to 12 capitals and digits
-NUMBER    the customer's number of a job: 1 to 9 digits, the first not 0
+NUMBER    the customer's number of a job: 1 to 999999
 PORT      1 to 65535, on this computer alone (127.0.0.1)
 COUNT     how many connections are served: 1 to 1000000
 
@@ -98,7 +98,7 @@ of the cards of a source:
   49      the END card is missing           put one after the last card of the source
 refusals of a bureau, which change nothing:
   10      CUSTOMER is no customer           1 to 12 capitals and digits
-  11      NUMBER is no number              1 to 9 digits, the first not 0
+  11      NUMBER is no number               1 to 999999
   12      the size is none                  1400, 2000, 4000, 8000, 12000 or 16000
   13      the deck has no card, or more     make two jobs of it
           than 2,000 with its loading cards
