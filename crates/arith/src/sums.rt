@@ -1,7 +1,7 @@
 //! Add and subtract.
 
 ghost use Rattle.std.specs.Prelude.{◌≡◌, ◌+◌, ◌-◌, ◌<◌, ◌≤◌, ℕ, false, true, length, Ok};
-ghost use Rattle.core_store.specs.Doing.{Does};
+ghost use Rattle.core_store.specs.Doing.{Does, DoesOrLeaves};
 ghost use Rattle.core_store.specs.Storage.{codes_ending, put_codes};
 ghost use Rattle.core_store.specs.Operands.{is_overlapping};
 ghost use Rattle.arith.specs.Operands.{AreCounts};
@@ -36,10 +36,8 @@ pub fn subtract<C: Core>(core: &mut C, registers: &mut Registers) -> Result<(), 
 /// nothing is changed.
 #[inline(always)]
 pub fn add_at_once<C: Core>(core: &mut C, registers: &mut Registers) -> bool
-    ensures done { result ≡ true → added false (C.cells core.old) registers.old
-        ≡ Ok (C.cells core.new, registers.new) }
-    ensures unchanged { result ≡ false → (C.cells core.new ≡ C.cells core.old)
-        × (registers.new ≡ registers.old) }
+    ensures { DoesOrLeaves result (C.cells core.old) registers.old
+        (C.cells core.new) registers.new (added false) }
 {
     combine_near(core, registers, false)
 }
@@ -48,10 +46,8 @@ pub fn add_at_once<C: Core>(core: &mut C, registers: &mut Registers) -> bool
 /// if not, nothing is changed.
 #[inline(always)]
 pub fn subtract_at_once<C: Core>(core: &mut C, registers: &mut Registers) -> bool
-    ensures done { result ≡ true → added true (C.cells core.old) registers.old
-        ≡ Ok (C.cells core.new, registers.new) }
-    ensures unchanged { result ≡ false → (C.cells core.new ≡ C.cells core.old)
-        × (registers.new ≡ registers.old) }
+    ensures { DoesOrLeaves result (C.cells core.old) registers.old
+        (C.cells core.new) registers.new (added true) }
 {
     combine_near(core, registers, true)
 }
@@ -72,10 +68,8 @@ fn combine<C: Core>(core: &mut C, registers: &mut Registers, reversed: bool) -> 
 /// fifteen if the signs are the same. Returns whether it did; if not, nothing is changed.
 #[inline(always)]
 fn combine_near<C: Core>(core: &mut C, registers: &mut Registers, reversed: bool) -> bool
-    ensures done { result ≡ true → added reversed (C.cells core.old) registers.old
-        ≡ Ok (C.cells core.new, registers.new) }
-    ensures unchanged { result ≡ false → (C.cells core.new ≡ C.cells core.old)
-        × (registers.new ≡ registers.old) }
+    ensures { DoesOrLeaves result (C.cells core.old) registers.old
+        (C.cells core.new) registers.new (added reversed) }
 {
     let Registers { a, b, .. } = *registers;
     let Some(counts) = near_counts_apart(core, a, b) else {

@@ -1,7 +1,7 @@
 //! Zero and add, zero and subtract.
 
 ghost use Rattle.std.specs.Prelude.{◌≡◌, ℕ, false, true, Ok};
-ghost use Rattle.core_store.specs.Doing.{Does};
+ghost use Rattle.core_store.specs.Doing.{Does, DoesOrLeaves};
 ghost use Rattle.arith.specs.Sums.{zero_added};
 
 use crate::decimal::{is_number, sign_zone};
@@ -43,10 +43,8 @@ fn replace<C: Core>(core: &mut C, registers: &mut Registers, reversed: bool) -> 
 /// characters. Returns whether it did; if not, nothing is changed.
 #[inline(always)]
 fn replace_near<C: Core>(core: &mut C, registers: &mut Registers, reversed: bool) -> bool
-    ensures done { result ≡ true → zero_added reversed (C.cells core.old) registers.old
-        ≡ Ok (C.cells core.new, registers.new) }
-    ensures unchanged { result ≡ false → (C.cells core.new ≡ C.cells core.old)
-        × (registers.new ≡ registers.old) }
+    ensures { DoesOrLeaves result (C.cells core.old) registers.old
+        (C.cells core.new) registers.new (zero_added reversed) }
 {
     let Registers { a, b, .. } = *registers;
     let Some(counts) = near_counts_apart(core, a, b) else {

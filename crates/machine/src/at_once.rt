@@ -5,6 +5,7 @@
 //! `cycle`.
 
 ghost use Rattle.std.specs.Prelude.{◌≡◌, ◌≤◌, ◌<◌, ℕ, true, false, length, Ok};
+ghost use Rattle.core_store.specs.Doing.{DoesOrLeaves};
 ghost use Rattle.core_store.specs.Storage.{largest_size};
 ghost use Rattle.units.specs.declared.units.Units.{Units};
 ghost use Rattle.machine.specs.declared.named.Operation.TheVariants.{OnFields};
@@ -27,10 +28,8 @@ use units::Units;
 #[inline(always)]
 #[tactic(auto, unfolding(crate::specs::Effect::worked))]
 fn work_at_once<C: Core>(core: &mut C, registers: &mut Registers, operation: FieldOperation) -> bool
-    ensures done { result ≡ true → worked operation (C.cells core.old) registers.old
-        ≡ Ok (C.cells core.new, registers.new) }
-    ensures unchanged { result ≡ false → (C.cells core.new ≡ C.cells core.old)
-        × (registers.new ≡ registers.old) }
+    ensures { DoesOrLeaves result (C.cells core.old) registers.old
+        (C.cells core.new) registers.new (worked operation) }
 {
     match operation {
         Add => add_at_once(core, registers),

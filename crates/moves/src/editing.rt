@@ -1,7 +1,7 @@
 //! Data edited by a control field.
 
 ghost use Rattle.std.specs.Prelude.{◌≡◌, ◌+◌, ◌-◌, ◌<◌, ◌≤◌, ℕ, List, Bool, true, false, length, max, min, slice_index, Some, IfSome, Ok};
-ghost use Rattle.core_store.specs.Doing.{Does};
+ghost use Rattle.core_store.specs.Doing.{Does, DoesOrLeaves};
 ghost use Rattle.core_store.specs.Storage.{codes_ending, field_length, put_codes, largest_size};
 ghost use Rattle.core_store.specs.Operands.{are_inside, cut_length};
 ghost use Rattle.moves.specs.Blanked.{ends, leading, blanked};
@@ -141,10 +141,8 @@ fn fill_near<C: Core>(core: &mut C, a: u16, a_count: u16, b: u16, b_count: u16)
 /// changed.
 #[inline(always)]
 fn edit_near<C: Core>(core: &mut C, registers: &mut Registers) -> bool
-    ensures done { result ≡ true → field_edited (C.cells core.old) registers.old
-        ≡ Ok (C.cells core.new, registers.new) }
-    ensures unchanged { result ≡ false → (C.cells core.new ≡ C.cells core.old)
-        × (registers.new ≡ registers.old) }
+    ensures { DoesOrLeaves result (C.cells core.old) registers.old
+        (C.cells core.new) registers.new field_edited }
 {
     let Registers { a, b, .. } = *registers;
     let Some(counts) = near_counts(core, a, b) else {

@@ -1,7 +1,7 @@
 //! A field loaded with its word mark.
 
 ghost use Rattle.std.specs.Prelude.{◌≡◌, ◌+◌, ◌-◌, ◌<◌, ℕ, true, false, Some, length, Ok};
-ghost use Rattle.core_store.specs.Doing.{Does};
+ghost use Rattle.core_store.specs.Doing.{Does, DoesOrLeaves};
 ghost use Rattle.core_store.specs.Storage.{Storage, cells_ending, field_length, put_cells, largest_size};
 ghost use Rattle.core_store.specs.declared.registers.Registers.{Registers};
 ghost use Rattle.moves.specs.Stretches.{AreNear};
@@ -30,10 +30,8 @@ fn load_near<C: Core>(core: &mut C, a: u16, b: u16, count: u16)
 /// position 15 or later. Returns whether it did; if not, nothing is changed.
 #[inline(always)]
 pub fn load_at_once<C: Core>(core: &mut C, registers: &mut Registers) -> bool
-    ensures done { result ≡ true → field_loaded (C.cells core.old) registers.old
-        ≡ Ok (C.cells core.new, registers.new) }
-    ensures unchanged { result ≡ false → (C.cells core.new ≡ C.cells core.old)
-        × (registers.new ≡ registers.old) }
+    ensures { DoesOrLeaves result (C.cells core.old) registers.old
+        (C.cells core.new) registers.new field_loaded }
 {
     let Registers { a, b, .. } = *registers;
     let Some(count) = near_field(core, a, b) else {

@@ -1,7 +1,7 @@
 //! A field moved up to a word mark.
 
 ghost use Rattle.std.specs.Prelude.{◌≡◌, ◌+◌, ◌-◌, ◌<◌, ◌≤◌, ◌&&◌, ℕ, true, false, Some, length, nat_le, IfSome, IsTrue, Ok};
-ghost use Rattle.core_store.specs.Doing.{Does};
+ghost use Rattle.core_store.specs.Doing.{Does, DoesOrLeaves};
 ghost use Rattle.core_store.specs.Storage.{Storage, put_codes, largest_size};
 ghost use Rattle.core_store.specs.Operands.{are_inside, is_overlapping};
 ghost use Rattle.core_store.specs.declared.registers.Registers.{Registers};
@@ -126,10 +126,8 @@ fn move_near<C: Core>(core: &mut C, a: u16, b: u16, count: u16)
 /// position 15 or later. Returns whether it did; if not, nothing is changed.
 #[inline(always)]
 pub fn move_at_once<C: Core>(core: &mut C, registers: &mut Registers) -> bool
-    ensures done { result ≡ true → moved (C.cells core.old) registers.old
-        ≡ Ok (C.cells core.new, registers.new) }
-    ensures unchanged { result ≡ false → (C.cells core.new ≡ C.cells core.old)
-        × (registers.new ≡ registers.old) }
+    ensures { DoesOrLeaves result (C.cells core.old) registers.old
+        (C.cells core.new) registers.new moved }
 {
     let Registers { a, b, .. } = *registers;
     let Some(count) = near_count(core, a, b) else {

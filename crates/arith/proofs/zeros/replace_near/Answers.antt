@@ -11,8 +11,8 @@ use Rattle.arith.proofs.zeros.replace_near.Goals as goal
 pub write_digits-requires-clause-digits : goal.write_digits-requires-clause-digits
 write_digits-requires-clause-digits g c = rw c.digits.ensures (parts_digits c.parts-parts.result (none_over 10 c.parts-parts.result (sym c.is_over.ensures ∙ c.if-is_over.false)))
 
-pub returns-clause-done : goal.returns-clause-done
-returns-clause-done g c _ =
+pub returns : goal.returns
+returns g c = (λ _.
     let s = g.C.Core.cells c.args.core.now in
     let r = c.args.registers.now in
     let counts = c.in-Some.counts in
@@ -28,4 +28,4 @@ returns-clause-done g c _ =
     (ap length c.digits.ensures ∙ length-map c.parts-parts.result digit_of_part ∙ a_long) (rw c.digits.ensures (parts_digits c.parts-parts.result small))
     (g.C.Core.cells c.put_near_codes.new.self) c.lower.new.self c.lower.ensures
     (c.put_near_codes.ensures ∙ ap (put_codes s (r.b - 15)) c.write_digits.ensures.codes)
-    c.signed-signed.ensures.codes (ap number c.digits.ensures ∙ a_value)
+    c.signed-signed.ensures.codes (ap number c.digits.ensures ∙ a_value), λ no. absurd (cc))
