@@ -13,7 +13,12 @@ use Rattle.http_messages.specs.declared.fixed.Fault.TheVariants as fault
 use Rattle.http_messages.proofs.BodyTexts.{queue_is, ran_is, refusal_is, summary_is}
 use Rattle.httparse.specs.Grammar.{status_code}
 use Rattle.httparse.proofs.GrammarLemmas.{response_unique}
-use Rattle.machine.specs.Standings.{standing_words}
+use Rattle.core_store.specs.Storage.{largest_size}
+use Rattle.machine.specs.Ranges.{IsInRange}
+use Rattle.machine.specs.Run.{State}
+use Rattle.machine.specs.Standings.{standing_at, standing_of, standing_words}
+use Rattle.machine.specs.declared.standings.Standing.{Standing}
+use Rattle.machine.specs.declared.standings.Standing.TheVariants as running
 use Rattle.machine.specs.declared.standings.StandingAt.{StandingAt}
 use Rattle.office.specs.Numbers.{refusal_number}
 use Rattle.office.specs.Queued.{QueuedJob}
@@ -26,11 +31,13 @@ use Rattle.queue_rounds.specs.Answers.{Stands, Tells, name_in, names_in, queue_i
 use Rattle.queue_rounds.specs.Names.{Name, name_of}
 use Rattle.queue_rounds.specs.Replies.{IsQueueRead, IsQueueTold, IsRanTold, IsRefusalTold, IsSliceRead, is_failure}
 use Rattle.queue_rounds.specs.Responses.{IsReplyIn, IsResponse}
+use Rattle.queue_rounds.specs.StandingTexts.{IsInStorage}
 use Rattle.queue_rounds.specs.declared.replies.Outcome.{Outcome}
 use Rattle.queue_rounds.specs.declared.replies.Outcome.TheVariants as outcome
 use Rattle.queue_rounds.specs.declared.replies.Passed.TheVariants as passed
 use Rattle.queue_rounds.specs.declared.replies.Reply.{Reply}
 use Rattle.queue_rounds.specs.declared.replies.Reply.TheVariants as reply
+use Rattle.queue_rounds.proofs.StandingLemmas.{taken}
 use Rattle.serde_json.specs.Data.{Data, no_members, object}
 use Rattle.serde_json.specs.Read.{read}
 use Rattle.serde_json.specs.View.{items_of}
@@ -182,28 +189,37 @@ reads_queue jobs it all fits h = queue_outcome jobs h.0 it all (reply_answered (
 
 -- ---- a slice that ran
 
-ran_tells : (executed : ℕ) (s : StandingAt) (it : Option (ℕ × List ℕ)) → executed < 2 ^ 32 → Tells ran_in (body_of (told.Ran executed s)) it → it ≡ Some (executed, standing_words s)
-ran_tells executed s it small t =
+ran_tells : (executed : ℕ) (s : StandingAt) (it : Option (ℕ × List ℕ)) → executed < 2 ^ 32 → IsInStorage s → Tells ran_in (body_of (told.Ran executed s)) it → it ≡ Some (executed, standing_words s)
+ran_tells executed s it small held t =
     let d = ran_data executed s in
     tells ran_in d (body_of (told.Ran executed s)) it (ran_is d executed s (compact_text d) refl (λ _. refl)) (is_text d (ran_is_plain executed s (omega arith))) (ran_read executed s (omega arith)) t
-    ∙ rw (le-leb executed 4294967295 (omega arith)) refl
+    ∙ rw (le-leb executed 4294967295 (omega arith), taken s held) refl
 
-ran_told : (executed : ℕ) (s : StandingAt) (it : Outcome) → executed < 2 ^ 32 → IsRanTold (body_of (told.Ran executed s)) it → IsRan executed s it
-ran_told executed s (outcome.Listed found) small t = t
-ran_told executed s (outcome.Ran ran) small t =
-    let same = some_is (ran_tells executed s (Some (ran.executed, string_bytes ran.standing)) small t) in
+ran_told : (executed : ℕ) (s : StandingAt) (it : Outcome) → executed < 2 ^ 32 → IsInStorage s → IsRanTold (body_of (told.Ran executed s)) it → IsRan executed s it
+ran_told executed s (outcome.Listed found) small held t = t
+ran_told executed s (outcome.Ran ran) small held t =
+    let same = some_is (ran_tells executed s (Some (ran.executed, string_bytes ran.standing)) small held t) in
     (ap (λ (p : ℕ × List ℕ). p.0) same, ap (λ (p : ℕ × List ℕ). p.1) same)
-ran_told executed s (outcome.Passed why) small t = t
-ran_told executed s outcome.Nothing small t = t
-ran_told executed s outcome.Foreign small t = none_is_not (ran_tells executed s None small t)
+ran_told executed s (outcome.Passed why) small held t = t
+ran_told executed s outcome.Nothing small held t = t
+ran_told executed s outcome.Foreign small held t = none_is_not (ran_tells executed s None small held t)
 
-ran_outcome : (executed : ℕ) (s : StandingAt) (answer : Reply) (it : Outcome) → executed < 2 ^ 32 → IsAnswer 200 (body_of (told.Ran executed s)) answer → IsSliceRead answer it → IsRan executed s it
-ran_outcome executed s reply.Unsent it small is h = absurd is
-ran_outcome executed s reply.Lost it small is h = absurd is
-ran_outcome executed s (reply.Replied status body) it small is h = ran_told executed s it small (subst (λ (b : List ℕ). IsRanTold b it) is.1 (h.told is.0))
+ran_outcome : (executed : ℕ) (s : StandingAt) (answer : Reply) (it : Outcome) → executed < 2 ^ 32 → IsInStorage s → IsAnswer 200 (body_of (told.Ran executed s)) answer → IsSliceRead answer it → IsRan executed s it
+ran_outcome executed s reply.Unsent it small held is h = absurd is
+ran_outcome executed s reply.Lost it small held is h = absurd is
+ran_outcome executed s (reply.Replied status body) it small held is h = ran_told executed s it small held (subst (λ (b : List ℕ). IsRanTold b it) is.1 (h.told is.0))
 
-pub reads_ran : (executed : ℕ) (s : StandingAt) (it : Outcome) → executed < 2 ^ 32 → HasBody (told.Ran executed s) → ReadsSlice (reply_bytes (told.Ran executed s)) it → IsRan executed s it
-reads_ran executed s it small fits h = ran_outcome executed s h.0 it small (reply_answered (told.Ran executed s) h.0 fits h.1) h.2
+pub reads_ran : (executed : ℕ) (s : StandingAt) (it : Outcome) → executed < 2 ^ 32 → IsInStorage s → HasBody (told.Ran executed s) → ReadsSlice (reply_bytes (told.Ran executed s)) it → IsRan executed s it
+reads_ran executed s it small held fits h = ran_outcome executed s h.0 it small held (reply_answered (told.Ran executed s) h.0 fits h.1) h.2
+
+-- the standing of a machine in range has an address of the storage, if it has one
+by_address : (s : Standing) (i : ℕ) → i < largest_size → IsInStorage (standing_at s i)
+by_address running.Running i low = tt
+by_address running.Halted i low = low
+by_address (running.Checked check) i low = low
+
+pub machine_in_storage : (m : State) → IsInRange m → IsInStorage (standing_of m)
+machine_in_storage m is = by_address m.standing m.works.registers.i is.registers.i
 
 -- ---- a slice that was refused
 
@@ -277,19 +293,19 @@ reads_failed_queue f it h = failed_queue f h.0 it (fault_answered f h.0 h.1) h.2
 
 -- ---- the standing of a job
 
-standing_tells : (job : Summary) (it : Option Stands) → HasCounts job → Tells standing_in (summary_body job) it → it ≡ Some (stands_told job)
-standing_tells job it has t =
+standing_tells : (job : Summary) (it : Option Stands) → HasCounts job → IsInStorage job.standing → Tells standing_in (summary_body job) it → it ≡ Some (stands_told job)
+standing_tells job it has held t =
     let d = summary_data job in
     tells standing_in d (summary_body job) it (summary_is d job (compact_text d) refl (λ _. refl)) (is_text d (summary_is_plain job has)) (summary_read job has) t
-    ∙ rw (le-leb job.granted 4294967295 (omega (arith, has.granted)), le-leb job.cards 4294967295 (omega (arith, has.cards)), le-leb job.lines 4294967295 (omega (arith, has.lines))) refl
+    ∙ rw (le-leb job.granted 4294967295 (omega (arith, has.granted)), le-leb job.cards 4294967295 (omega (arith, has.cards)), le-leb job.lines 4294967295 (omega (arith, has.lines)), taken job.standing held) refl
 
-standing_outcome : (job : Summary) (answer : Reply) (it : Option Stands) → HasCounts job → IsAnswer 200 (summary_body job) answer → IsStandingRead answer it → it ≡ Some (stands_told job)
-standing_outcome job reply.Unsent it has is h = absurd is
-standing_outcome job reply.Lost it has is h = absurd is
-standing_outcome job (reply.Replied status body) it has is h = standing_tells job it has (subst (λ (b : List ℕ). Tells standing_in b it) is.1 (h.told is.0))
+standing_outcome : (job : Summary) (answer : Reply) (it : Option Stands) → HasCounts job → IsInStorage job.standing → IsAnswer 200 (summary_body job) answer → IsStandingRead answer it → it ≡ Some (stands_told job)
+standing_outcome job reply.Unsent it has held is h = absurd is
+standing_outcome job reply.Lost it has held is h = absurd is
+standing_outcome job (reply.Replied status body) it has held is h = standing_tells job it has held (subst (λ (b : List ℕ). Tells standing_in b it) is.1 (h.told is.0))
 
-pub reads_standing : (job : Summary) (it : Option Stands) → HasCounts job → HasBody (told.Standing job) → ReadsStanding (reply_bytes (told.Standing job)) it → it ≡ Some (stands_told job)
-reads_standing job it has fits h = standing_outcome job h.0 it has (reply_answered (told.Standing job) h.0 fits h.1) h.2
+pub reads_standing : (job : Summary) (it : Option Stands) → HasCounts job → IsInStorage job.standing → HasBody (told.Standing job) → ReadsStanding (reply_bytes (told.Standing job)) it → it ≡ Some (stands_told job)
+reads_standing job it has held fits h = standing_outcome job h.0 it has held (reply_answered (told.Standing job) h.0 fits h.1) h.2
 
 -- ---- a request that is refused by its status alone
 

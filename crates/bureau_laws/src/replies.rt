@@ -5,6 +5,9 @@ ghost use Rattle.http_messages.specs.ReplyBodies.{body_of};
 ghost use Rattle.http_messages.specs.Fixed.{fault_bytes, fault_status, refusing_status};
 ghost use Rattle.http_messages.specs.Replies.{refused_bytes, reply_bytes, status_of};
 ghost use Rattle.http_messages.specs.declared.fixed.Fault.{Fault};
+ghost use Rattle.machine.specs.Ranges.{IsInRange};
+ghost use Rattle.machine.specs.Run.{State};
+ghost use Rattle.machine.specs.Standings.{standing_of};
 ghost use Rattle.machine.specs.declared.standings.StandingAt.{StandingAt};
 ghost use Rattle.office.specs.Numbers.{refusal_number};
 ghost use Rattle.office.specs.Queued.{QueuedJob};
@@ -14,6 +17,7 @@ ghost use Rattle.office.specs.declared.replies.Reply.TheVariants as told;
 ghost use Rattle.office.specs.declared.summaries.Summary.{Summary};
 ghost use Rattle.queue_rounds.specs.Answers.{Stands};
 ghost use Rattle.queue_rounds.specs.Responses.{IsReplyIn, IsResponse};
+ghost use Rattle.queue_rounds.specs.StandingTexts.{IsInStorage};
 ghost use Rattle.queue_rounds.specs.declared.replies.Outcome.{Outcome};
 ghost use Rattle.queue_rounds.specs.declared.replies.Outcome.TheVariants as outcome;
 ghost use Rattle.queue_rounds.specs.declared.replies.Passed.TheVariants as passed;
@@ -25,7 +29,9 @@ ghost use Rattle.bureau_laws.specs.Replies.{HasBody, HasCounts, ReadsQueue, Read
 /// The operator reads of them the queue's jobs in their order; of a slice that ran, how many
 /// instructions it executed and how its job stands; of one that was refused, the refusal's number;
 /// of a job, its standing, flags and counts; and of a fault of the bureau itself, that it failed.
-/// A request that was refused by its status alone is read as nothing that a bureau says.
+/// A standing is read where its address, if it has one, is in the largest storage; so is that of
+/// each machine in range. A request that was refused by its status alone is read as nothing that a
+/// bureau says.
 pub fn replies_are_read()
     ensures response { (r : office.Reply) → HasBody r →
         IsResponse (reply_bytes r) (status_of r) (body_of r) }
@@ -35,7 +41,7 @@ pub fn replies_are_read()
         HasBody (told.Queue jobs) → ReadsQueue (reply_bytes (told.Queue jobs)) it →
         IsListed jobs it }
     ensures ran { (executed : ℕ) (standing : StandingAt) (it : Outcome) → executed < 2 ^ 32 →
-        HasBody (told.Ran executed standing) →
+        IsInStorage standing → HasBody (told.Ran executed standing) →
         ReadsSlice (reply_bytes (told.Ran executed standing)) it → IsRan executed standing it }
     ensures refused { (reason : Refusal) (it : Outcome) → IsOfJob reason →
         HasBody (told.Refused reason) → ReadsSlice (reply_bytes (told.Refused reason)) it →
@@ -49,6 +55,7 @@ pub fn replies_are_read()
     ensures foreign_queue { (status : ℕ) (it : Outcome) →
         ReadsQueue (refused_bytes (refusing_status status)) it → it ≡ outcome.Foreign }
     ensures standing { (job : Summary) (it : Option Stands) → HasCounts job →
-        HasBody (told.Standing job) → ReadsStanding (reply_bytes (told.Standing job)) it →
-        it ≡ Some (stands_told job) }
+        IsInStorage job.standing → HasBody (told.Standing job) →
+        ReadsStanding (reply_bytes (told.Standing job)) it → it ≡ Some (stands_told job) }
+    ensures in_storage { (m : State) → IsInRange m → IsInStorage (standing_of m) }
 {}

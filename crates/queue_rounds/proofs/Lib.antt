@@ -1,4 +1,5 @@
 mod AnswerLemmas
+pub mod StandingLemmas
 mod TurnLemmas
 mod EndLemmas
 mod ChangeLemmas

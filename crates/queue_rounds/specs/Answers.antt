@@ -5,6 +5,7 @@ use Rattle.serde_json.specs.Data.{Data, Items, no_items, item}
 use Rattle.serde_json.specs.Find.{get, as_array, as_bool, as_number, as_str, as_u64}
 use Rattle.serde_json.specs.Read.{read as read_text}
 use Rattle.queue_rounds.specs.Names.{Name}
+use Rattle.queue_rounds.specs.StandingTexts.{is_standing}
 use Rattle.texts.specs.Names.{is_customer, is_number}
 
 -- a number, if it has 32 bits
@@ -19,6 +20,14 @@ number_at name value = option_and_then word_of
 -- the text of a member
 abbrev pub text_at : List ℕ → Data → Option (List ℕ)
 text_at name value = option_and_then as_str (get name value)
+
+-- a text, if it is what a bureau prints of a standing
+abbrev pub standing_of : List ℕ → Option (List ℕ)
+standing_of text = if is_standing text then Some text else None
+
+-- the text of a standing that a value tells
+abbrev pub standing_at : Data → Option (List ℕ)
+standing_at value = option_and_then standing_of (text_at (codes "standing") value)
 
 -- the name of a customer and a number, if a bureau's job can have them
 abbrev pub name_with : List ℕ → ℕ → Option Name
@@ -45,7 +54,7 @@ queue_in value =
 -- the instructions that a slice executed, and how its job stands then
 abbrev pub ran_in : Data → Option (ℕ × List ℕ)
 ran_in value = option_and_then
-    (λ executed. option_map (λ standing. (executed, standing)) (text_at (codes "standing") value))
+    (λ executed. option_map (λ standing. (executed, standing)) (standing_at value))
     (number_at (codes "executed") value)
 
 -- the number of a refusal
@@ -79,7 +88,7 @@ standing_in value =
       lines = lines;
     }) (number_at (codes "lines") value)) (number_at (codes "cards") value))
     (number_at (codes "granted") value)) (flag_at (codes "collected") value))
-    (flag_at (codes "held") value)) (text_at (codes "standing") value)
+    (flag_at (codes "held") value)) (standing_at value)
 
 -- what a body tells by a rule is this, and nothing if it is no text or no JSON
 pub record Tells {X : Type 0} (rule : Data → Option X) (body : List ℕ) (it : Option X)

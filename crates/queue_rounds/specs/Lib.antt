@@ -1,4 +1,5 @@
 pub mod Names
+pub mod StandingTexts
 pub mod Answers
 pub mod Standings
 pub mod Replies

@@ -3,10 +3,11 @@
 ghost use Rattle.std.specs.Prelude.{◌≡◌, Some, All, IfOk, IfSome, option_map, map, string_bytes};
 ghost use Rattle.serde_json.specs.Data.{Data};
 ghost use Rattle.serde_json.specs.View.{items_view, view};
-ghost use Rattle.queue_rounds.specs.Answers.{Tells, name_in, names_in, number_at, queue_in, ran_in, refusal_in, text_at};
+ghost use Rattle.queue_rounds.specs.Answers.{Tells, name_in, names_in, number_at, queue_in, ran_in, refusal_in, standing_at, text_at};
 ghost use Rattle.queue_rounds.specs.Names.{IsName, name_of};
 
 use crate::jobs::JobName;
+use crate::standing_texts::is_standing;
 use serde_json::Value;
 use std::alloc::{AllocError, Global};
 use texts::{is_customer, is_number};
@@ -16,7 +17,7 @@ use texts::{is_customer, is_number};
 pub struct Ran {
     /// How many instructions it executed.
     pub executed: u32,
-    /// How its machine stands: `running`, or where it stopped.
+    /// How its machine stands: `running`, or where it stopped. It is a text that a bureau prints.
     pub standing: String,
 }
 
@@ -61,6 +62,16 @@ pub(crate) fn text_at<'a>(value: &'a Value, name: &str) -> Option<&'a str>
         Some(member) => member.as_str(),
         None => None,
     }
+}
+
+/// The text of the standing that a value tells, if a bureau prints it of one.
+pub(crate) fn standing_at(value: &Value) -> Option<&str>
+    ensures { option_map (λ text. text.now) result ≡ standing_at (view value.now) }
+{
+    let Some(text) = text_at(value, "standing") else {
+        return None;
+    };
+    if is_standing(text) { Some(text) } else { None }
 }
 
 /// The name of a job in an item of the queue, if it is one of a bureau's.
@@ -137,15 +148,15 @@ fn ran_in(alloc: Global, value: &Value) -> Result<Option<Ran>, AllocError>
     let Some(executed) = number_at(value, "executed") else {
         return Ok(None);
     };
-    let Some(standing) = text_at(value, "standing") else {
+    let Some(standing) = standing_at(value) else {
         return Ok(None);
     };
     let standing = String::from_str(alloc, standing)?;
     Ok(Some(Ran { executed, standing }))
 }
 
-/// Returns what a slice did that a body tells; none if it tells of no slice. Fails only if there
-/// is no memory.
+/// Returns what a slice did that a body tells; none if it tells of no slice, as where no bureau
+/// prints its standing. Fails only if there is no memory.
 pub fn read_ran(alloc: Global, body: &[u8]) -> Result<Option<Ran>, AllocError>
     ensures { IfOk result (λ found. Tells ran_in body.now
         (option_map (λ ran. (ran.executed, string_bytes ran.standing)) found)) }

@@ -1,10 +1,13 @@
-//! The laws of rounds, and of the changes of a queue.
+//! The laws of rounds, of the changes of a queue, and of standings.
 
 ghost use Rattle.std.specs.Prelude.{◌≡◌, ◌+◌, ◌≤◌, ◌&&◌, ◌||◌, ℕ, Bool, List, Option, Some, true, not};
 ghost use Rattle.std.specs.List.{list_all};
+ghost use Rattle.machine.specs.Standings.{standing_words};
+ghost use Rattle.machine.specs.declared.standings.StandingAt.{StandingAt};
 ghost use Rattle.queue_rounds.specs.Names.{Name, is_among, missing};
 ghost use Rattle.queue_rounds.specs.Rounds.{start};
 ghost use Rattle.queue_rounds.specs.Runs.{after_all, all_go_on, begun_by, count, listed_by, none_ran, paused_by, sliced_by, total};
+ghost use Rattle.queue_rounds.specs.StandingTexts.{IsInStorage, is_standing};
 ghost use Rattle.queue_rounds.specs.declared.jobs.JobName.{JobName};
 ghost use Rattle.queue_rounds.specs.declared.replies.Outcome.{Outcome};
 
@@ -62,4 +65,13 @@ pub fn changes_lead_to_the_next_queue()
         is_among now name
         ≡ ((is_among before name && not (is_among (missing before now) name))
         || is_among (missing now before) name) }
+{}
+
+/// The law of standings: a text is taken for a standing just if it is what is printed of one, whose
+/// address, if it has one, is in the largest storage.
+#[tactic(auto, using(crate::proofs::StandingLemmas::taken, crate::proofs::StandingLemmas::others))]
+pub fn standings_are_those_printed()
+    ensures taken { (s : StandingAt) → IsInStorage s → is_standing (standing_words s) ≡ true }
+    ensures no_other { (text : List ℕ) → is_standing text ≡ true →
+        (s : StandingAt) × IsInStorage s × (text ≡ standing_words s) }
 {}

@@ -21,6 +21,7 @@ mod laws;
 mod replies;
 mod responses;
 mod rounds;
+mod standing_texts;
 mod standings;
 mod turns;
 
@@ -29,7 +30,8 @@ pub use changes::{Changes, changes_between};
 pub use jobs::JobName;
 pub use laws::{
     changes_lead_to_the_next_queue, each_job_of_a_round_has_one_slice,
-    no_more_rounds_than_asked_for, turns_are_fair, work_in_which_no_slice_runs_ends,
+    no_more_rounds_than_asked_for, standings_are_those_printed, turns_are_fair,
+    work_in_which_no_slice_runs_ends,
 };
 pub use replies::{Outcome, Passed, Reply, outcome_of_queue, outcome_of_slice, standing_of};
 pub use responses::read_reply;

@@ -5,14 +5,14 @@ ghost use Rattle.serde_json.specs.View.{view};
 ghost use Rattle.queue_rounds.specs.Answers.{Tells, flag_at, standing_in};
 ghost use Rattle.queue_rounds.specs.Standings.{stands};
 
-use crate::answers::{number_at, read, text_at};
+use crate::answers::{number_at, read, standing_at};
 use serde_json::Value;
 use std::alloc::{AllocError, Global};
 
 /// How a job stands.
 #[derive(Drop)]
 pub struct Standing {
-    /// `running`, or where its machine stopped.
+    /// `running`, or where its machine stopped. It is a text that a bureau prints.
     pub standing: String,
     /// Whether it is held.
     pub held: bool,
@@ -40,7 +40,7 @@ fn flag_at(value: &Value, name: &str) -> Option<bool>
 fn standing_in(alloc: Global, value: &Value) -> Result<Option<Standing>, AllocError>
     ensures { IfOk result (λ found. option_map stands found ≡ standing_in (view value.now)) }
 {
-    let Some(standing) = text_at(value, "standing") else {
+    let Some(standing) = standing_at(value) else {
         return Ok(None);
     };
     let Some(held) = flag_at(value, "held") else {
@@ -69,8 +69,8 @@ fn standing_in(alloc: Global, value: &Value) -> Result<Option<Standing>, AllocEr
     }))
 }
 
-/// Returns how a job stands that a body tells; none if it tells no standing. Fails only if there is
-/// no memory.
+/// Returns how a job stands that a body tells; none if it tells no standing that a bureau prints.
+/// Fails only if there is no memory.
 pub fn read_standing(alloc: Global, body: &[u8]) -> Result<Option<Standing>, AllocError>
     ensures { IfOk result (λ found. Tells standing_in body.now (option_map stands found)) }
 {
