@@ -7,4 +7,5 @@ mod SessionLemmas
 mod SessionLaw
 mod StopLemmas
 mod EndLemmas
+mod LineLemmas
 mod TalkLemmas

@@ -1,5 +1,5 @@
 -- a session over a reader and a writer
-use Rattle.std.specs.Prelude.{ℕ, ◌≡◌, ◌<◌, ◌≤◌, ◌⊎◌, Bool, true, false, List, [], ◌∷◌, ◌++◌, length, take, Option, Some, IfSome}
+use Rattle.std.specs.Prelude.{ℕ, ◌≡◌, ◌≢◌, ◌<◌, ◌≤◌, ◌⊎◌, All, Bool, true, false, List, [], ◌∷◌, ◌++◌, length, take, Option, Some, IfSome}
 use Rattle.std.specs.Io.{StopsAt}
 use Rattle.std.specs.Io.BufRead.{drop_through, take_through}
 use Rattle.std.specs.Io.KnownBytes.{Appends, Consumes, IsAtEnd, Keeps}
@@ -8,11 +8,21 @@ use Rattle.console.specs.SessionStates.{SessionState}
 use Rattle.console.specs.declared.talking.Ended.{Ended}
 use Rattle.console.specs.declared.talking.Ended.TheVariants as ended
 
+-- the most bytes of a line, with its line feed
+abbrev pub longest_line : ℕ
+longest_line = 4096
+
 -- this is the next line of what a reader has left, and it is read: up to its line feed, or to the
--- end
+-- end; it is none that is too long
 abbrev pub IsRead : Option (List ℕ) → List ℕ → Option (List ℕ) → Type 0
-IsRead left line after = IfSome left (λ bytes.
+IsRead left line after = (length line ≤ longest_line) × IfSome left (λ bytes.
     (0 < length line) × (line ≡ take_through 10 bytes) × (after ≡ Some (drop_through 10 bytes)))
+
+-- a reader had this left and has this: it gave as many bytes as a line may have, and there was no
+-- line feed among them
+abbrev pub IsTooLong : Option (List ℕ) → Option (List ℕ) → Type 0
+IsTooLong left rest = (front : List ℕ) × (length front ≡ longest_line)
+    × All (λ byte. byte ≢ 10) front × Consumes left rest front
 
 -- a reader had this left and has this: it gave a beginning of its next line, or all of it
 abbrev pub HasGiven : Option (List ℕ) → Option (List ℕ) → Type 0
@@ -47,11 +57,16 @@ PutsSo bytes old new true = Appends old new bytes
 PutsSo bytes old new false =
     (count : ℕ) × (count ≤ length bytes) × Appends old new (take count bytes)
 
--- what ends a session before a further line is read
-abbrev pub IsUnread : Ended → Type 0
-IsUnread ended.NoMemory = Unit {0}
-IsUnread ended.ReadFailed = Unit {0}
-IsUnread other = ⊥
+-- how a session ends whose reader failed
+abbrev pub IsFailure : Ended → Type 0
+IsFailure ended.NoMemory = Unit {0}
+IsFailure ended.ReadFailed = Unit {0}
+IsFailure other = ⊥
+
+-- what ends a session before a further line is read, whose reader had this left and has this
+abbrev pub IsUnread : Ended → Option (List ℕ) → Option (List ℕ) → Type 0
+IsUnread ended.TooLong left rest = IsTooLong left rest
+IsUnread it left rest = IsFailure it
 
 -- a session is as it was, or a line was read whose answer there was no memory for
 abbrev pub IsUnanswered : SessionState → SessionState → Option (List ℕ) → Option (List ℕ) → Type 0
@@ -59,9 +74,9 @@ IsUnanswered now after left rest = (after ≡ now) ⊎ ((line : List ℕ) × IsR
 
 -- how a session ended that had come so far and had printed this, by what it is now, what the reader
 -- had left then and has now, and what the writer had before and has now: at the end of what the
--- reader had; by a line that ends it; for want of memory, before a further line was answered;
--- because the reader failed, before a further line was read; or because the writer failed, and took
--- a beginning of a further answer
+-- reader had; by a line that ends it; for want of memory, before a further line was answered; by a
+-- further line that is too long; because the reader failed, before a further line was read; or
+-- because the writer failed, and took a beginning of a further answer
 abbrev pub EndsSo : Ended → SessionState → SessionState → Option (List ℕ) → Option (List ℕ) → List ℕ
     → Option (List ℕ) → Option (List ℕ) → Type 0
 EndsSo ended.AtEnd now after left rest text old new =
@@ -70,6 +85,8 @@ EndsSo ended.Asked now after left rest text old new =
     (told : List ℕ) × OneMore now after left rest true told × Appends old new (text ++ told)
 EndsSo ended.NoMemory now after left rest text old new =
     IsUnanswered now after left rest × HasGiven left rest × Appends old new text
+EndsSo ended.TooLong now after left rest text old new =
+    (after ≡ now) × IsTooLong left rest × Appends old new text
 EndsSo ended.ReadFailed now after left rest text old new =
     (after ≡ now) × HasGiven left rest × Appends old new text
 EndsSo ended.WriteFailed now after left rest text old new =

@@ -16,11 +16,16 @@ fn tell_taken<E: Write>(errors: &mut E) -> io::Result<Status> {
     Ok(Status::Misused)
 }
 
+/// What is said of a line that is too long.
+const TOO_LONG: &[u8] =
+    b"the standard input has a line of more than 4095 bytes; help lists the lines that there are\n";
+
 /// The status after a session. Where it did not go to its end, that is told.
 fn status_of<E: Write>(ended: Ended, errors: &mut E) -> Result<Status, Undone> {
     match ended {
         Ended::AtEnd | Ended::Asked => return Ok(Status::Done),
         Ended::NoMemory => return Err(Undone::Memory),
+        Ended::TooLong => errors.write_all(TOO_LONG)?,
         Ended::ReadFailed => errors.write_all(b"the standard input cannot be read\n")?,
         Ended::WriteFailed => errors.write_all(b"the standard output cannot be written\n")?,
     }
