@@ -125,8 +125,11 @@ fn tell_difference<E: Write>(new: &str, found: &Found, errors: &mut E) -> io::Re
     }
 }
 
-/// What is said where a new file cannot be made.
-const UNMADE: &str = "no file can be made there; is its folder there, and the disk not full?";
+/// What is said where a new file cannot be made. It gets its name by a hard link, since nothing
+/// that is there may be replaced.
+const UNMADE: &str = "no file can be made there; is its folder there, and the disk not full? One \
+                      that knows no hard links, as an exFAT or FAT stick and many a share, takes \
+                      none: make it on another disk, and copy it there";
 
 /// What is said where a new file cannot be filled.
 const UNFILLED: &str = "it cannot be filled; is the disk full? Else try operator check on what it \
