@@ -47,17 +47,41 @@ fn tell_name<E: Write>(new: &str, words: &str, errors: &mut E) -> io::Result<Sta
     Ok(Status::Unusable)
 }
 
-/// Prints a fault of a new file: that there is no memory, or else these words.
-fn tell_new<E: Write>(
-    new: &str,
+/// Prints why a new file cannot be made, and the way out.
+fn tell_unmade<E: Write>(new: &str, fault: OpenFault, errors: &mut E) -> io::Result<Status> {
+    match fault {
+        OpenFault::NoMemory => tell_fault(new, fault, errors),
+        _ => {
+            writeln!(errors, "{new}: fault 2: {UNMADE}")?;
+            Ok(Status::Unusable)
+        }
+    }
+}
+
+/// Prints what may say more of a new file: a check of each file that it is made of.
+fn tell_checks<E: Write>(made: Made<'_>, errors: &mut E) -> io::Result<()> {
+    let Made { file, second, .. } = made;
+    write!(errors, "try operator check {file}")?;
+    if second != file {
+        write!(errors, " and operator check {second}")?;
+    }
+    writeln!(errors)
+}
+
+/// Prints a fault of a new file that may come of those that it is made of: that there is no memory,
+/// or else these words, and what may say more.
+fn tell_made<E: Write>(
+    made: Made<'_>,
     fault: OpenFault,
     words: &str,
     errors: &mut E,
 ) -> io::Result<Status> {
+    let new = made.new;
     match fault {
         OpenFault::NoMemory => tell_fault(new, fault, errors),
         _ => {
-            writeln!(errors, "{new}: fault 2: {words}")?;
+            write!(errors, "{new}: fault 2: {words}")?;
+            tell_checks(made, errors)?;
             Ok(Status::Unusable)
         }
     }
@@ -79,7 +103,7 @@ fn tell_unfilled<E: Write>(
     unfilled: &Option<Unfilled<'_>>,
     errors: &mut E,
 ) -> io::Result<Status> {
-    let Made { file, second, new } = made;
+    let Made { file, second, .. } = made;
     match unfilled {
         Some(Unfilled::Unknown(name)) => {
             writeln!(
@@ -96,13 +120,14 @@ fn tell_unfilled<E: Write>(
             )?;
             Ok(Status::NotDone)
         }
-        Some(Unfilled::Failed(fault)) => tell_new(new, OpenFault::from(*fault), UNFILLED, errors),
-        None => tell_new(new, OpenFault::Store, UNFILLED, errors),
+        Some(Unfilled::Failed(fault)) => tell_made(made, OpenFault::from(*fault), UNFILLED, errors),
+        None => tell_made(made, OpenFault::Store, UNFILLED, errors),
     }
 }
 
 /// Prints why a new file was not found to be what it should be.
-fn tell_difference<E: Write>(new: &str, found: &Found, errors: &mut E) -> io::Result<Status> {
+fn tell_difference<E: Write>(made: Made<'_>, found: &Found, errors: &mut E) -> io::Result<Status> {
+    let new = made.new;
     match found {
         Some(
             Ok(
@@ -113,15 +138,15 @@ fn tell_difference<E: Write>(new: &str, found: &Found, errors: &mut E) -> io::Re
             ),
         ) => {
             let table = table.name();
-            writeln!(
+            write!(
                 errors,
-                "{new}: the rows of {table} differ, so it is not kept; try operator check on what \
-                 it is made of"
+                "{new}: the rows of {table} differ, so it is not kept; "
             )?;
+            tell_checks(made, errors)?;
             Ok(Status::NotDone)
         }
         Some(Err(Fault::NoMemory)) => tell_fault(new, OpenFault::NoMemory, errors),
-        _ => tell_new(new, OpenFault::Store, UNCOMPARED, errors),
+        _ => tell_made(made, OpenFault::Store, UNCOMPARED, errors),
     }
 }
 
@@ -132,17 +157,14 @@ const UNMADE: &str = "no file can be made there; is its folder there, and the di
                       none: make it on another disk, and copy it there";
 
 /// What is said where a new file cannot be filled.
-const UNFILLED: &str = "it cannot be filled; is the disk full? Else try operator check on what it \
-                        is made of";
+const UNFILLED: &str = "it cannot be filled; is the disk full? Else ";
 
 /// What is said where a new file does not open: what it is made of was damaged where the opening of
 /// that did not look, or a disk is.
-const UNREAD: &str = "it was made and does not open, so it is not kept; try operator check on what \
-                      it is made of";
+const UNREAD: &str = "it was made and does not open, so it is not kept; ";
 
 /// What is said where a new file cannot be compared.
-const UNCOMPARED: &str = "it cannot be compared, so it is not kept; try operator check on what it \
-                          is made of";
+const UNCOMPARED: &str = "it cannot be compared, so it is not kept; ";
 
 /// Prints why a new file is not made, and the way out.
 pub(crate) fn tell_copy_fault<E: Write>(
@@ -163,10 +185,10 @@ pub(crate) fn tell_copy_fault<E: Write>(
             "there is something of this name, or a log or a journal beside it",
             errors,
         ),
-        CopyFault::Copy(fault) => tell_new(new, fault, UNMADE, errors),
+        CopyFault::Copy(fault) => tell_unmade(new, fault, errors),
         CopyFault::NotFilled => tell_unfilled(made, unfilled, errors),
-        CopyFault::Unread(fault) => tell_new(new, fault, UNREAD, errors),
-        CopyFault::NotSame => tell_difference(new, found, errors),
+        CopyFault::Unread(fault) => tell_made(made, fault, UNREAD, errors),
+        CopyFault::NotSame => tell_difference(made, found, errors),
     }
 }
 

@@ -5,7 +5,7 @@ ghost use Rattle.std.specs.Prelude.{IsNone, IsOkAnd, IsSomeAnd};
 use crate::copy_faults::{Found, Made, Unfilled, jobs_found, tell_copy_fault};
 use command_line::Status;
 use job_archives::{Compared, Customers, compare_files};
-use ledger_files::{Comparison, copy};
+use ledger_files::{Comparison, CopyFault, copy};
 use sqlite::{Alter, Connection};
 use std::io;
 use std::io::Write;
@@ -30,6 +30,22 @@ impl RowComparison<'_> {
             unfilled: None,
             found: None,
         }
+    }
+
+    /// Prints why the copy or part of a file is not made, and the way out.
+    pub(crate) fn tell<E: Write>(
+        &self,
+        file: &str,
+        new: &str,
+        fault: CopyFault,
+        errors: &mut E,
+    ) -> io::Result<Status> {
+        let made = Made {
+            file,
+            second: file,
+            new,
+        };
+        tell_copy_fault(made, fault, &self.unfilled, &self.found, errors)
     }
 }
 
@@ -71,13 +87,6 @@ pub(crate) fn copy_file<W: Write, E: Write>(
             output.flush()?;
             Ok(Status::Done)
         }
-        Err(fault) => {
-            let made = Made {
-                file,
-                second: file,
-                new,
-            };
-            tell_copy_fault(made, fault, &comparison.unfilled, &comparison.found, errors)
-        }
+        Err(fault) => comparison.tell(file, new, fault, errors),
     }
 }

@@ -91,8 +91,8 @@ NEW is a bureau's file with no log beside it. It has each job of these customers
 starts, cards and lines, and the jobs are in the order that they have in FILE. It is read back, and
 each row of it is compared with that of FILE. FILE is not changed. If part is killed, NEW is not
 there, or it is whole; a file NEW.1.part beside it may be removed. Status 1: there is no job of a
-customer, or something differs, and there is no NEW; or there was no memory. Status 3: FILE could not
-be used, or NEW could not be made or is there already.
+customer, or something differs, and there is no NEW; or there was no memory. Status 3: FILE could
+not be used, or NEW could not be made or is there already.
 ";
 
 /// The text that `join --help` prints.
@@ -108,9 +108,9 @@ example:
 NEW is a bureau's file with no log beside it. It has each job of FIRST and then each of SECOND, with
 its decks, starts, cards and lines. It is read back, and each row of it is compared with that of its
 file. FIRST and SECOND are not changed. If join is killed, NEW is not there, or it is whole; a file
-NEW.1.part beside it may be removed. Status 1: a customer has jobs in both, or something differs, and
-there is no NEW; or there was no memory. Status 3: FIRST or SECOND could not be used, or they are one
-file, or NEW could not be made or is there already.
+NEW.1.part beside it may be removed. Status 1: a customer has jobs in both, or something differs,
+and there is no NEW; or there was no memory. Status 3: FIRST or SECOND could not be used, or they
+are one file, or NEW could not be made or is there already.
 ";
 
 /// The text that `archive --help` prints.

@@ -1,6 +1,6 @@
 //! The subcommand `part`.
 
-use crate::copy_faults::{Made, Unfilled, failed, jobs_found, tell_copy_fault};
+use crate::copy_faults::{Unfilled, failed, jobs_found};
 use crate::copying::RowComparison;
 use command_line::Status;
 use job_archives::{Customers, copy_jobs, first_unknown};
@@ -36,8 +36,8 @@ impl Filling for RowComparison<'_> {
     }
 }
 
-/// Makes a new bureau's file at a path, of the jobs that some customers have in the bureau's file at
-/// another path, and prints what came of it.
+/// Makes a new bureau's file at a path, of the jobs that some customers have in the bureau's file
+/// at another path, and prints what came of it.
 pub(crate) fn part_file<W: Write, E: Write>(
     rt: &HostRuntime,
     file: &str,
@@ -57,13 +57,6 @@ pub(crate) fn part_file<W: Write, E: Write>(
             output.flush()?;
             Ok(Status::Done)
         }
-        Err(fault) => {
-            let made = Made {
-                file,
-                second: file,
-                new,
-            };
-            tell_copy_fault(made, fault, &parting.unfilled, &parting.found, errors)
-        }
+        Err(fault) => parting.tell(file, new, fault, errors),
     }
 }
