@@ -150,6 +150,8 @@ class Reference:
         attempts = executed + standing.startswith("check")
         files = self.exported(*job.split())
         if standing == "running":
+            if any(files.values()):
+                raise ModelError(f"{text} does not end, and makes something")
             return Life(None, executed, standing, 1, {}, files)
         if not starts:
             self.compare(text, standing, files["lines"])
@@ -310,9 +312,12 @@ class Model:
         return life.counts[job.attempts] if life.attempts else (0, 0)
 
     def made(self, job, name):
-        """The cards or the lines: all at a halt, else any beginning of them."""
+        """The cards or the lines: all at a halt, else any beginning of them; of all cards as many
+        as there are."""
         life = self.reference.life(job.text, job.starts)
         whole = life.files[name]
+        if name == "cards":
+            return b"".join(whole.splitlines(keepends=True)[: self.counts(job)[0]])
         return whole if job.attempts == life.attempts else Beginning(whole)
 
     def entries(self, name, body):
