@@ -1,6 +1,6 @@
 //! What is printed where a new file is not made of a bureau's, or of two.
 
-use crate::faults::tell_fault;
+use crate::faults::{tell_fault, tell_unopened};
 use command_line::Status;
 use job_archives::Compared;
 use ledger_files::CopyFault;
@@ -168,6 +168,7 @@ const UNCOMPARED: &str = "it cannot be compared, so it is not kept; ";
 
 /// Prints why a new file is not made, and the way out.
 pub(crate) fn tell_copy_fault<E: Write>(
+    rt: &HostRuntime,
     made: Made<'_>,
     fault: CopyFault,
     unfilled: &Option<Unfilled<'_>>,
@@ -176,8 +177,8 @@ pub(crate) fn tell_copy_fault<E: Write>(
 ) -> io::Result<Status> {
     let Made { file, second, new } = made;
     match fault {
-        CopyFault::File(fault) => tell_fault(file, fault, errors),
-        CopyFault::Second(fault) => tell_fault(second, fault, errors),
+        CopyFault::File(fault) => tell_unopened(rt, file, fault, errors),
+        CopyFault::Second(fault) => tell_unopened(rt, second, fault, errors),
         CopyFault::OneFile => tell_one_file(made, errors),
         CopyFault::Name => tell_name(new, "this is the name of another file's log", errors),
         CopyFault::Taken => tell_name(

@@ -35,6 +35,7 @@ impl RowComparison<'_> {
     /// Prints why the copy or part of a file is not made, and the way out.
     pub(crate) fn tell<E: Write>(
         &self,
+        rt: &HostRuntime,
         file: &str,
         new: &str,
         fault: CopyFault,
@@ -45,7 +46,7 @@ impl RowComparison<'_> {
             second: file,
             new,
         };
-        tell_copy_fault(made, fault, &self.unfilled, &self.found, errors)
+        tell_copy_fault(rt, made, fault, &self.unfilled, &self.found, errors)
     }
 }
 
@@ -87,6 +88,6 @@ pub(crate) fn copy_file<W: Write, E: Write>(
             output.flush()?;
             Ok(Status::Done)
         }
-        Err(fault) => comparison.tell(file, new, fault, errors),
+        Err(fault) => comparison.tell(rt, file, new, fault, errors),
     }
 }

@@ -136,7 +136,14 @@ pub(crate) fn join_files<W: Write, E: Write>(
                 unfilled,
                 found,
             } = joining;
-            tell_copy_fault(made, fault, &unfilled_by(shared, unfilled), &found, errors)
+            tell_copy_fault(
+                rt,
+                made,
+                fault,
+                &unfilled_by(shared, unfilled),
+                &found,
+                errors,
+            )
         }
     }
 }

@@ -57,6 +57,6 @@ pub(crate) fn part_file<W: Write, E: Write>(
             output.flush()?;
             Ok(Status::Done)
         }
-        Err(fault) => parting.tell(file, new, fault, errors),
+        Err(fault) => parting.tell(rt, file, new, fault, errors),
     }
 }
