@@ -7,11 +7,13 @@ import tempfile
 from contextlib import closing, contextmanager
 
 PAGE = 100
-# The tables of versions 1, 2 and 3, in the order in which their programs made them.
+# The tables of versions 1, 2 and 3, in the order in which their programs made them. Those of 2 and
+# 3 made `pictures` too, and dropped it.
+MADE = ("bureau", "jobs", "stretches", "pictures", "cards", "lines", "states", "pages")
 TABLES = {
-    1: ("bureau", "jobs", "stretches", "pictures", "cards", "lines"),
-    2: ("bureau", "jobs", "stretches", "cards", "lines", "states", "pages"),
-    3: ("bureau", "jobs", "stretches", "cards", "lines", "states", "pages"),
+    1: MADE[:6],
+    2: tuple(it for it in MADE if it != "pictures"),
+    3: tuple(it for it in MADE if it != "pictures"),
 }
 
 
@@ -75,8 +77,10 @@ def make_old(path, old, version):
     with copied(path) as db, closing(sqlite3.connect(old)) as made, made:
         texts = dict(db.execute("SELECT name, sql FROM sqlite_schema WHERE type = 'table'"))
         texts["pictures"] = with_storage(texts["states"])
-        for table in TABLES[version]:
+        for table in TABLES[version] if version == 1 else MADE:
             made.execute(texts[table])
+        if version > 1:
+            made.execute("DROP TABLE pictures")
         for table in TABLES[version]:
             found = old_rows(db, table, version)
             if found:
