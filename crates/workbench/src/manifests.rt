@@ -118,10 +118,37 @@ fn entry_named<'a>(lines: &[&'a [u8]], name: &[u8]) -> Option<ManifestEntry<'a>>
     None
 }
 
+/// The digits of a byte.
+const DIGITS: [u8; 16] = *b"0123456789ABCDEF";
+
+/// Whether a byte makes a control character, alone or behind this byte.
+fn is_control(before: u8, byte: u8) -> bool {
+    match byte {
+        0..=31 | 127 => true,
+        0x80..=0x9F => before == 0xC2,
+        _ => false,
+    }
+}
+
+/// Adds a name, in which each control character is shown by its digits.
+fn push_shown(told: &mut Vec<u8>, name: &[u8]) -> Result<(), AllocError> {
+    let mut before = 0;
+    for &byte in name {
+        if is_control(before, byte) {
+            let (high, low) = (DIGITS[byte as usize / 16], DIGITS[byte as usize % 16]);
+            told.extend_from_slice(&[b'\\', b'x', high, low])?;
+        } else {
+            told.push(byte)?;
+        }
+        before = byte;
+    }
+    Ok(())
+}
+
 /// Adds a line: a word, and a name.
 fn push_told(told: &mut Vec<u8>, word: &[u8], name: &[u8]) -> Result<(), AllocError> {
     told.extend_from_slice(word)?;
-    told.extend_from_slice(name)?;
+    push_shown(told, name)?;
     told.push(b'\n')?;
     Ok(())
 }

@@ -33,16 +33,20 @@ fn character(bytes: &[u8; 4]) -> Option<&str> {
     str::from_utf8(&bytes[..length_by(bytes[0])]).ok()
 }
 
-/// Whether a character can be shown as it is.
-fn is_shown(first: u8) -> bool {
-    first > 32 && first != 127
+/// Whether a character can be shown as it is: it is no control character.
+fn is_shown(bytes: &[u8; 4]) -> bool {
+    match bytes[0] {
+        0..=32 | 127 => false,
+        0xC2 => bytes[1] >= 0xA0,
+        _ => true,
+    }
 }
 
 /// Says which character has no card code.
 fn tell_no_code<E: Write>(errors: &mut E, bytes: [u8; 4]) -> io::Result<()> {
     let first = bytes[0];
     match character(&bytes) {
-        Some(text) if is_shown(first) => {
+        Some(text) if is_shown(&bytes) => {
             writeln!(errors, "the character {text} has no card code")
         }
         _ => writeln!(errors, "the byte \\x{first:02X} has no card code"),
