@@ -3,6 +3,7 @@
 use crate::places::fault_of;
 use ledger_tables::OpenFault;
 use std::io;
+use std::io::ErrorKind;
 
 /// Why a new file is not made of a bureau's file, or of two.
 pub enum CopyFault {
@@ -18,6 +19,8 @@ pub enum CopyFault {
     Taken,
     /// The new file cannot be made.
     Copy(OpenFault),
+    /// The disk of the new file knows no hard links, by which it would get its name.
+    Linkless,
     /// The new file was not filled: what was to fill it has kept why not.
     NotFilled,
     /// The new file was made, and does not open as a bureau's.
@@ -30,5 +33,14 @@ impl CopyFault {
     /// The fault of an error while the new file is made.
     pub(crate) fn of(error: &io::Error) -> CopyFault {
         CopyFault::Copy(fault_of(error))
+    }
+
+    /// The fault of an error where the new file gets its name by a hard link.
+    pub(crate) fn of_link(error: &io::Error) -> CopyFault {
+        match error.kind() {
+            ErrorKind::AlreadyExists => CopyFault::Taken,
+            ErrorKind::PermissionDenied | ErrorKind::Unsupported => CopyFault::Linkless,
+            _ => CopyFault::of(error),
+        }
     }
 }

@@ -11,7 +11,6 @@ use ledger_tables::OpenFault;
 use sqlite::{Connection, FileStore};
 use sqlite_disk::Disk;
 use std::fs;
-use std::io::ErrorKind;
 
 /// Whether a name is that of a log or a journal of another file.
 fn is_of_log(name: &str) -> bool {
@@ -74,8 +73,7 @@ fn publish(rt: &HostRuntime, part: &Place, new: &str) -> Result<u64, CopyFault> 
             sync_folder_of(rt, new);
             Ok(length)
         }
-        Err(error) if error.kind() == ErrorKind::AlreadyExists => Err(CopyFault::Taken),
-        Err(error) => Err(CopyFault::of(&error)),
+        Err(error) => Err(CopyFault::of_link(&error)),
     }
 }
 

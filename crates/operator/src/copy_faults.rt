@@ -48,11 +48,16 @@ fn tell_name<E: Write>(new: &str, words: &str, errors: &mut E) -> io::Result<Sta
 }
 
 /// Prints why a new file cannot be made, and the way out.
-fn tell_unmade<E: Write>(new: &str, fault: OpenFault, errors: &mut E) -> io::Result<Status> {
+fn tell_unmade<E: Write>(
+    new: &str,
+    fault: OpenFault,
+    words: &str,
+    errors: &mut E,
+) -> io::Result<Status> {
     match fault {
         OpenFault::NoMemory => tell_fault(new, fault, errors),
         _ => {
-            writeln!(errors, "{new}: fault 2: {UNMADE}")?;
+            writeln!(errors, "{new}: fault 2: {words}")?;
             Ok(Status::Unusable)
         }
     }
@@ -150,11 +155,13 @@ fn tell_difference<E: Write>(made: Made<'_>, found: &Found, errors: &mut E) -> i
     }
 }
 
-/// What is said where a new file cannot be made. It gets its name by a hard link, since nothing
-/// that is there may be replaced.
-const UNMADE: &str = "no file can be made there; is its folder there, and the disk not full? One \
-                      that knows no hard links, as an exFAT or FAT stick and many a share, takes \
-                      none: make it on another disk, and copy it there";
+/// What is said where a new file cannot be made.
+const UNMADE: &str = "no file can be made there; is its folder there, and the disk not full?";
+
+/// What is said where a new file cannot get its name. It gets it by a hard link, since nothing that
+/// is there may be replaced.
+const LINKLESS: &str = "this disk knows no hard links, as an exFAT or FAT stick and many a share, \
+                        so no file gets its name there; make it on another disk, and copy it";
 
 /// What is said where a new file cannot be filled.
 const UNFILLED: &str = "it cannot be filled; is the disk full? Else ";
@@ -186,7 +193,8 @@ pub(crate) fn tell_copy_fault<E: Write>(
             "there is something of this name, or a log or a journal beside it",
             errors,
         ),
-        CopyFault::Copy(fault) => tell_unmade(new, fault, errors),
+        CopyFault::Copy(fault) => tell_unmade(new, fault, UNMADE, errors),
+        CopyFault::Linkless => tell_unmade(new, OpenFault::Store, LINKLESS, errors),
         CopyFault::NotFilled => tell_unfilled(made, unfilled, errors),
         CopyFault::Unread(fault) => tell_made(made, fault, UNREAD, errors),
         CopyFault::NotSame => tell_difference(made, found, errors),
