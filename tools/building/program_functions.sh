@@ -1,8 +1,9 @@
 # What ./build and run-program share. They source it, with their name in `me` and the top of the
 # repository in `top`.
 
+# In a shell of its own, which alone ends where nobody reads any more, as in `2>&1 | head -n 1`.
 say() {
-    printf '%s: %s\n' "$me" "$1" >&2
+    (printf '%s: %s\n' "$me" "$1" >&2)
 }
 
 fail() {
@@ -48,15 +49,12 @@ minutes() {
     fi
 }
 
-# Makes the program of this name by the toolchain's checked build, unless it is there, and has
-# `program` name it. Says that it is not proved, and how long the proof takes: so many processor
-# minutes.
+# Makes the program by the toolchain's checked build, unless it is there, and has `program` name it.
 take_checked() {
-    say "not proved yet: this run is by the toolchain's checked build; ./build $3proves it,\
- which takes about $(minutes "$2") minutes"
-    program=$top/crates/$1/out/$1.checked
+    program=$top/crates/$me/out/$me.checked
     if is_stale "$program" "$top/tools/building"; then
         need_tools
-        call "$top/tools/building/build-checked" "$1"
+        say "not proved yet: the toolchain's checked build is made first, once, in a minute or two"
+        call "$top/tools/building/build-checked" "$me"
     fi
 }
