@@ -1,4 +1,5 @@
 pub mod Plain
+pub mod Near
 pub mod Tables
 pub mod Arguments
 pub mod Programs

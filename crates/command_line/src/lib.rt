@@ -15,7 +15,8 @@
 //! The contracts for the layers above: [`task_of`] returns the task that the arguments ask for, or
 //! else what is wrong with them (`specs/Tasks.antt`); [`arguments_are_those_of_the_table`] says which
 //! arguments the table takes; and what is printed, for a fault, for a mistake or as help, is exactly
-//! the text of `specs/Printed.antt` and `specs/Mistakes.antt`, or the writer failed.
+//! the text of `specs/Printed.antt` and `specs/Mistakes.antt`, or the writer failed. Names that are
+//! nearly what was given are found by [`is_near`] (`specs/Near.antt`).
 #![tactic(auto)]
 
 mod arguments;
@@ -24,6 +25,7 @@ mod faults;
 mod help;
 mod laws;
 mod mistakes;
+mod near;
 mod plain;
 mod ports;
 mod programs;
@@ -38,6 +40,7 @@ pub use errors::Unfailing;
 pub use faults::Fault;
 pub use laws::arguments_are_those_of_the_table;
 pub use mistakes::{Mistake, tell_mistake};
+pub use near::is_near;
 pub use programs::{Asked, Program, Syntax, asked_by};
 pub use statuses::{Status, exit_code};
 pub use subcommands::Subcommand;
