@@ -1,5 +1,5 @@
 -- programs as tables of subcommands, and what arguments ask for by them
-use Rattle.std.specs.Prelude.{◌≡◌, ◌⊎◌, ◌&&◌, ◌||◌, Bool, false, List, [], ◌∷◌, Option, Some, None, codes, find, fold, if◌then◌else◌, is_some, map, not, option_map, unwrap_or}
+use Rattle.std.specs.Prelude.{◌≡◌, ◌⊎◌, ◌&&◌, ◌||◌, Bool, false, true, List, [], ◌∷◌, Option, Some, None, codes, find, fold, if◌then◌else◌, is_some, map, not, option_map, unwrap_or}
 use Rattle.std.specs.List.{list_any}
 use Rattle.std.specs.Str.{bytes_eq}
 use Rattle.clap.specs.Words.{App, Row, Text, fault_of, subcommand_of}
@@ -57,15 +57,26 @@ pub data Wish (R : Type 0) : Type 0 where
 abbrev pub IsHelpArgument : Text → Type 0
 IsHelpArgument argument = (argument ≡ codes "--help") ⊎ (argument ≡ codes "-h")
 
+-- whether the argument asks for help
+abbrev pub is_help : Text → Bool
+is_help argument = bytes_eq argument (codes "--help") || bytes_eq argument (codes "-h")
+
 -- the arguments ask for the version
 abbrev pub IsVersion : List Text → Type 0
 IsVersion arguments = arguments ≡ codes "--version" ∷ []
 
--- the arguments ask for the help of the subcommand that the first one names, or for the whole help
+-- whether one of the arguments asks for help, and `--` does not come before it
+unfoldable pub has_help : List Text → Bool
+has_help [] = false
+has_help (argument ∷ more) =
+    not (bytes_eq argument (codes "--")) && (is_help argument || has_help more)
+
+-- the arguments ask for the help of the subcommand that the first one names, by one behind it, or
+-- alone for the whole help
 abbrev pub AsksForHelp : {R : Type 0} → Program R → List Text → Option R → Type 0
 AsksForHelp program (argument ∷ []) None = IsHelpArgument argument
-AsksForHelp program (name ∷ argument ∷ []) (Some subcommand) =
-    IsHelpArgument argument × (subcommand_named program name ≡ Some subcommand)
+AsksForHelp program (name ∷ argument ∷ more) (Some subcommand) =
+    (has_help (argument ∷ more) ≡ true) × (subcommand_named program name ≡ Some subcommand)
 AsksForHelp program _ _ = ⊥
 
 -- clap takes the arguments by the program's command, and finds this subcommand with these arguments
