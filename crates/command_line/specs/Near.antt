@@ -1,5 +1,5 @@
 -- texts that are nearly the same
-use Rattle.std.specs.Prelude.{◌==◌, ◌&&◌, ◌||◌, Bool, false, if◌then◌else◌, List, [], ◌∷◌, length, nat_le}
+use Rattle.std.specs.Prelude.{◌==◌, ◌&&◌, ◌||◌, Bool, false, if◌then◌else◌, [], ◌∷◌, length, nat_le}
 use Rattle.std.specs.Str.{bytes_eq}
 use Rattle.clap.specs.Words.{Text}
 

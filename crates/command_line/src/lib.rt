@@ -4,7 +4,8 @@
 //! [`asked_by`] returns what arguments ask for by such a table, and fails for arguments that ask for
 //! something only if there is no memory (`specs/Programs.antt`). A subcommand comes with its
 //! arguments as they were [`Found`], and [`tell_mistake`] prints exactly what is wrong with others
-//! (`specs/Mistakes.antt`).
+//! (`specs/Mistakes.antt`): the argument at fault, and a name that it nearly is
+//! (`specs/Misuses.antt`, `specs/Near.antt`).
 //!
 //! The bureau's own table is in `src/subcommands.rt`. Its program is called without arguments, with a
 //! subcommand and its values in their places, or for the help or the version by an argument with
@@ -25,7 +26,10 @@ mod faults;
 mod help;
 mod laws;
 mod mistakes;
+mod misuses;
 mod near;
+mod options;
+mod places;
 mod plain;
 mod ports;
 mod programs;
@@ -40,6 +44,7 @@ pub use errors::Unfailing;
 pub use faults::Fault;
 pub use laws::arguments_are_those_of_the_table;
 pub use mistakes::{Mistake, tell_mistake};
+pub use misuses::Misuse;
 pub use near::is_near;
 pub use programs::{Asked, Program, Syntax, asked_by};
 pub use statuses::{Status, exit_code};

@@ -5,13 +5,17 @@ ghost use Rattle.std.specs.List.{list_any};
 ghost use Rattle.std.specs.Str.{bytes_eq};
 ghost use Rattle.clap.specs.Words.{Row, app_of, fault_of, is_simple_and_free, subcommand_of, subcommand_rows_of};
 ghost use Rattle.clap.specs.Simple.{is_simple};
+ghost use Rattle.command_line.specs.Misuses.{arguments_as};
+ghost use Rattle.command_line.specs.Near.{is_near};
 ghost use Rattle.command_line.specs.Plain.{texts};
-ghost use Rattle.command_line.specs.Programs.{AsksFor, AsksInPlace, HasSubcommand, IsHelpArgument, IsMisread, Wish, command, has_help, has_options, is_help, program_as, subcommand_named, stray_option, usage_begun, usage_named, wish_as};
+ghost use Rattle.command_line.specs.Programs.{AsksFor, AsksInPlace, HasSubcommand, IsHelpArgument, IsMisread, Wish, arguments_named, command, has_help, has_options, is_help, near_subcommand, program_as, subcommand_named, stray_option, usage_begun, usage_named, wish_as};
 ghost use Rattle.command_line.specs.declared.mistakes.Mistake.TheVariants.{Memory};
 ghost use Rattle.command_line.specs.Tables.{is_option, with_subcommand_named};
 
 use crate::arguments::Found;
 use crate::mistakes::Mistake;
+use crate::misuses::misuse_of;
+use crate::near::is_near;
 use crate::plain::{first_argument, has_dashes, odd_argument};
 use crate::tables::{Kind, Unread, named_command, parse, with_subcommand_named};
 use clap::{ArgMatches, Command};
@@ -246,17 +250,49 @@ fn stray_option<'a, R: Copy>(program: &Program<R>, arguments: &'a [String]) -> O
     odd_argument(arguments)
 }
 
+/// How the first subcommand is written whose name is nearly this.
+fn near_syntax<'a, R>(subcommands: &'a [Syntax<R>], argument: &str) -> Option<&'a Syntax<R>>
+    ensures { option_map (λ syntax. syntax.now) result
+        ≡ find (λ syntax. is_near syntax.name.now argument.now) subcommands.entry.now }
+{
+    subcommands.iter().find(|syntax| is_near(syntax.name.as_bytes(), argument.as_bytes()))
+}
+
+/// The first subcommand whose name is nearly this.
+fn near_subcommand<R>(program: &Program<R>, argument: &str) -> Option<&'static str>
+    ensures { option_map (λ name. name.now) result
+        ≡ near_subcommand (program_as program.now) argument.now }
+{
+    match near_syntax(program.subcommands, argument) {
+        Some(syntax) => Some(syntax.name),
+        None => None,
+    }
+}
+
+/// The arguments of the subcommand with this name.
+fn arguments_named<R>(program: &Program<R>, argument: &str) -> &'static [(&'static str, Kind)]
+    ensures { arguments_as result.now ≡ arguments_named (program_as program.now) argument.now }
+{
+    match syntax_in(program.subcommands, argument) {
+        Some(syntax) => syntax.arguments,
+        None => &[],
+    }
+}
+
 /// The mistake of arguments that ask for nothing.
 pub(crate) fn mistake_in<'a, R: Copy>(program: &Program<R>, arguments: &'a [String]) -> Mistake<'a>
     ensures { IsMisread (program_as program.now) (texts arguments.entry.now) result }
 {
-    let Some(usage) = usage_begun(program, arguments) else {
-        return Mistake::Subcommand;
+    let Some((name, more)) = first_argument(arguments) else {
+        return Mistake::Nothing;
     };
-    match stray_option(program, arguments) {
-        Some(argument) => Mistake::Hyphen(argument, usage),
-        None => Mistake::Arguments(usage),
+    let Some(usage) = usage_begun(program, arguments) else {
+        return Mistake::Subcommand(name, near_subcommand(program, name));
+    };
+    if let Some(argument) = stray_option(program, arguments) {
+        return Mistake::Hyphen(argument, usage);
     }
+    Mistake::Arguments(misuse_of(arguments_named(program, name), more), usage)
 }
 
 /// What clap finds in arguments by the program's command.

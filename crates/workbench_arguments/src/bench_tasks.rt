@@ -34,7 +34,10 @@ fn switches_in(found: &Found<'_>) -> Result<Switches, Mistake<'static>>
 }
 
 /// What a machine begins with, whose deck or source is in an argument.
-pub(crate) fn setup_in<'a>(found: &Found<'a>, name: &str) -> Result<Setup<'a>, Mistake<'static>>
+pub(crate) fn setup_in<'a>(
+    found: &Found<'a>,
+    name: &'static str,
+) -> Result<Setup<'a>, Mistake<'static>>
     ensures { IfOk result (IsSetup name.now (given found.now)) }
 {
     Ok(Setup {
