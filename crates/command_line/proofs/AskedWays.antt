@@ -1,19 +1,16 @@
 -- The ways in which arguments ask for something.
-use Rattle.std.proofs.Common.{◌≡◌, ◌∙◌, ◌⊎◌, ◌||◌, Bool, List, [], ◌∷◌, true, false, codes, not, refl, Some, None, ap, ap₂, sym, subst, inl, inr}
+use Rattle.std.proofs.Common.{◌≡◌, ◌∙◌, ◌⊎◌, ◌||◌, Bool, List, [], ◌∷◌, true, false, codes, not, refl, Some, None, ap, sym, subst, inl, inr}
 use Rattle.std.specs.Prelude.{◌↔◌, Option, find, is_some}
 use Rattle.std.proofs.lemmas.List.Elements.{All-cons, All-head, All-nil, All-tail}
 use Rattle.clap.specs.Words.{Text}
 use Rattle.command_line.specs.Asked.{HasValues, IsHelp}
-use Rattle.command_line.specs.Programs.{AsksForHelp, has_dashes, is_clear}
+use Rattle.command_line.specs.Programs.{AsksForHelp, has_dashes, has_help, is_clear}
 use Rattle.command_line.specs.Subcommands.{bureau, name_of}
 use Rattle.command_line.specs.Plain.{ArePlain, is_odd, is_plain}
 use Rattle.command_line.specs.declared.subcommands.Subcommand.{Subcommand}
 use Rattle.command_line.proofs.SubcommandLemmas.{name_is, named_name, one_name}
 
 -- ---- arguments that ask for help
-
-both : {a b c d : Text} → a ≡ b → c ≡ d → a ∷ c ∷ [] ≡ b ∷ d ∷ []
-both e f = ap₂ (λ (x y : Text). x ∷ y ∷ []) e f
 
 alone : {a b : Text} → a ≡ b → a ∷ [] ≡ b ∷ []
 alone e = ap (λ (x : Text). x ∷ []) e
@@ -25,17 +22,24 @@ help_is [] (Some subcommand) asks = absurd asks
 help_is (argument ∷ []) None (inl is) = inl (alone is)
 help_is (argument ∷ []) None (inr is) = inr (alone is)
 help_is (argument ∷ []) (Some subcommand) asks = absurd asks
-help_is (first ∷ argument ∷ []) None asks = absurd asks
-help_is (first ∷ argument ∷ []) (Some subcommand) (inl is, named) = inl (both (name_is first subcommand named) is)
-help_is (first ∷ argument ∷ []) (Some subcommand) (inr is, named) = inr (both (name_is first subcommand named) is)
-help_is (first ∷ argument ∷ other ∷ more) None asks = absurd asks
-help_is (first ∷ argument ∷ other ∷ more) (Some subcommand) asks = absurd asks
+help_is (first ∷ argument ∷ more) None asks = absurd asks
+help_is (first ∷ argument ∷ more) (Some subcommand) (has, named) =
+    (argument ∷ more, ap (λ (w : Text). w ∷ argument ∷ more) (name_is first subcommand named), has)
+
+none_asks : has_help [] ≡ true → ⊥
+unfolding has_help
+none_asks e = cc
+
+-- a subcommand's name and arguments that ask for help ask for the help of the subcommand
+named_asks : (subcommand : Subcommand) (more : List Text) → has_help more ≡ true → AsksForHelp bureau (name_of subcommand ∷ more) (Some subcommand)
+named_asks subcommand [] has = absurd (none_asks has)
+named_asks subcommand (argument ∷ more) has = (has, named_name subcommand)
 
 pub is_help : (arguments : List Text) (page : Option Subcommand) → IsHelp page arguments → AsksForHelp bureau arguments page
 is_help arguments None (inl is) = subst (λ ws. AsksForHelp bureau ws None) (sym is) (inl refl)
 is_help arguments None (inr is) = subst (λ ws. AsksForHelp bureau ws None) (sym is) (inr refl)
-is_help arguments (Some subcommand) (inl is) = subst (λ ws. AsksForHelp bureau ws (Some subcommand)) (sym is) (inl refl, named_name subcommand)
-is_help arguments (Some subcommand) (inr is) = subst (λ ws. AsksForHelp bureau ws (Some subcommand)) (sym is) (inr refl, named_name subcommand)
+is_help arguments (Some subcommand) is =
+    subst (λ ws. AsksForHelp bureau ws (Some subcommand)) (sym is.1) (named_asks subcommand is.0 is.2)
 
 pub same_help : (arguments : List Text) (page : Option Subcommand) → AsksForHelp bureau arguments page ↔ IsHelp page arguments
 same_help arguments page = (help_is arguments page, is_help arguments page)

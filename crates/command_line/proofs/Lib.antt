@@ -6,4 +6,5 @@ pub mod CommandSubcommands
 pub mod CommandArguments
 pub mod AskedWays
 pub mod MistakeLines
+pub mod MisuseSteps
 pub mod TaskArguments

@@ -121,8 +121,9 @@ no_run deck size switches m task.Version wrong is = absurd is
 no_run deck size switches m (task.Run Standard s w) wrong is = absurd is
 no_run deck size switches mistake.Memory (task.Run (File path) s w) wrong is = absurd wrong
 no_run deck size switches mistake.NoText (task.Run (File path) s w) wrong is = absurd wrong
-no_run deck size switches mistake.Subcommand (task.Run (File path) s w) wrong is = absurd wrong
-no_run deck size switches (mistake.Arguments usage) (task.Run (File path) s w) wrong is = absurd wrong
+no_run deck size switches mistake.Nothing (task.Run (File path) s w) wrong is = absurd wrong
+no_run deck size switches (mistake.Subcommand argument near) (task.Run (File path) s w) wrong is = absurd wrong
+no_run deck size switches (mistake.Arguments it usage) (task.Run (File path) s w) wrong is = absurd wrong
 no_run deck size switches (mistake.Hyphen argument usage) (task.Run (File path) s w) wrong is = absurd wrong
 no_run deck size switches (mistake.Value said) (task.Run (File path) s w) (inl wrong) is = absurd (wrong.1 s (second_is is.1))
 no_run deck size switches (mistake.Value said) (task.Run (File path) s w) (inr wrong) is = absurd (wrong.2 w is.2 (third_is is.1))
@@ -146,8 +147,9 @@ no_serve served at_port so_many m (task.Export file customer number) wrong is = 
 no_serve served at_port so_many m (task.Migrate file) wrong is = let k : name.Serve ≡ name.Migrate = is.0 in cc
 no_serve served at_port so_many mistake.Memory (task.Serve f p c) wrong is = absurd wrong
 no_serve served at_port so_many mistake.NoText (task.Serve f p c) wrong is = absurd wrong
-no_serve served at_port so_many mistake.Subcommand (task.Serve f p c) wrong is = absurd wrong
-no_serve served at_port so_many (mistake.Arguments usage) (task.Serve f p c) wrong is = absurd wrong
+no_serve served at_port so_many mistake.Nothing (task.Serve f p c) wrong is = absurd wrong
+no_serve served at_port so_many (mistake.Subcommand argument near) (task.Serve f p c) wrong is = absurd wrong
+no_serve served at_port so_many (mistake.Arguments it usage) (task.Serve f p c) wrong is = absurd wrong
 no_serve served at_port so_many (mistake.Hyphen argument usage) (task.Serve f p c) wrong is = absurd wrong
 no_serve served at_port so_many (mistake.Value said) (task.Serve f p c) (inl wrong) is = absurd (wrong.1 p is.2 (second_is is.1))
 no_serve served at_port so_many (mistake.Value said) (task.Serve f p c) (inr wrong) is = absurd (wrong.2 c is.3 (third_is is.1))
@@ -206,24 +208,27 @@ no_subcommand_task arguments subcommand found m t asks place wrong wants = elim 
 pub misread_is : (arguments : List Text) (m : Mistake) → IsMisread bureau arguments m → IsMistake arguments m
 misread_is arguments mistake.Memory is = tt
 misread_is arguments mistake.NoText is = absurd is
-misread_is arguments mistake.Subcommand is = is
-misread_is arguments (mistake.Arguments usage) is = is
+misread_is arguments mistake.Nothing is = is
+misread_is arguments (mistake.Subcommand argument near) is = is
+misread_is arguments (mistake.Arguments it usage) is = is
 misread_is arguments (mistake.Hyphen argument usage) is = is
 misread_is arguments (mistake.Value said) is = absurd is
 
 run_said : (size switches : Text) (arguments : List Text) (m : Mistake) → IsValueMistake size switches m → AreSubcommandArguments arguments m → IsMistake arguments m
 run_said size switches arguments mistake.Memory is said = absurd is
 run_said size switches arguments mistake.NoText is said = absurd is
-run_said size switches arguments mistake.Subcommand is said = absurd is
-run_said size switches arguments (mistake.Arguments usage) is said = absurd is
+run_said size switches arguments mistake.Nothing is said = absurd is
+run_said size switches arguments (mistake.Subcommand argument near) is said = absurd is
+run_said size switches arguments (mistake.Arguments it usage) is said = absurd is
 run_said size switches arguments (mistake.Hyphen argument usage) is said = absurd is
 run_said size switches arguments (mistake.Value text) is said = said
 
 serve_said : (port count : Text) (arguments : List Text) (m : Mistake) → IsServeMistake port count m → AreSubcommandArguments arguments m → IsMistake arguments m
 serve_said port count arguments mistake.Memory is said = absurd is
 serve_said port count arguments mistake.NoText is said = absurd is
-serve_said port count arguments mistake.Subcommand is said = absurd is
-serve_said port count arguments (mistake.Arguments usage) is said = absurd is
+serve_said port count arguments mistake.Nothing is said = absurd is
+serve_said port count arguments (mistake.Subcommand argument near) is said = absurd is
+serve_said port count arguments (mistake.Arguments it usage) is said = absurd is
 serve_said port count arguments (mistake.Hyphen argument usage) is said = absurd is
 serve_said port count arguments (mistake.Value text) is said = said
 

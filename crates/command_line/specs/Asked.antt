@@ -2,17 +2,18 @@
 use Rattle.std.specs.Prelude.{◌≡◌, ◌⊎◌, List, [], ◌∷◌, Option, Some, None, codes, map, true, unwrap_or}
 use Rattle.clap.specs.Words.{Row, Text, first_of}
 use Rattle.command_line.specs.Plain.{ArePlain}
-use Rattle.command_line.specs.Programs.{HasSubcommand, IsVersion, Wish, for_help, for_subcommand, for_version, is_clear}
+use Rattle.command_line.specs.Programs.{HasSubcommand, IsVersion, Wish, for_help, for_subcommand, for_version, has_help, is_clear}
 use Rattle.command_line.specs.Subcommands.{bureau, name_of, values_of}
 use Rattle.command_line.specs.declared.subcommands.Subcommand.{Subcommand}
 use Rattle.command_line.specs.declared.subcommands.Subcommand.TheVariants as name
 use Rattle.command_line.specs.declared.help.TheConstants.{APPLY_HELP, ASSEMBLE_HELP, EXPORT_HELP, HELP, INIT_HELP, MIGRATE_HELP, RUN_HELP, SERVE_HELP}
 
--- the arguments ask for the help of a subcommand, or for the whole help
+-- the arguments ask for the help of a subcommand, by `--help` or `-h` behind its name and before a
+-- `--`, or for the whole help
 abbrev pub IsHelp : Option Subcommand → List Text → Type 0
 IsHelp None arguments = (arguments ≡ codes "--help" ∷ []) ⊎ (arguments ≡ codes "-h" ∷ [])
-IsHelp (Some subcommand) arguments =
-    (arguments ≡ name_of subcommand ∷ codes "--help" ∷ []) ⊎ (arguments ≡ name_of subcommand ∷ codes "-h" ∷ [])
+IsHelp (Some subcommand) arguments = (more : List Text)
+    × (arguments ≡ name_of subcommand ∷ more) × (has_help more ≡ true)
 
 -- the arguments are the subcommand's name and these values; no value begins with a hyphen, but for
 -- `-` alone, unless `--` comes before the values

@@ -1,4 +1,6 @@
 pub mod Plain
+pub mod Near
+pub mod Misuses
 pub mod Tables
 pub mod Arguments
 pub mod Programs

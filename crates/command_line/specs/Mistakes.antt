@@ -1,12 +1,13 @@
 -- what a program of subcommands prints of arguments that ask for nothing, and its exit status
-use Rattle.std.specs.Prelude.{List, [], ◌∷◌, ◌++◌, Option, Some, None, ℕ, codes}
+use Rattle.std.specs.Prelude.{List, [], ◌∷◌, ◌++◌, Option, Some, None, ℕ, codes, option_map}
 use Rattle.std.specs.declared.io.ErrorKind.{ErrorKind}
 use Rattle.std.specs.declared.io.ErrorKind.TheVariants.{OutOfMemory}
 use Rattle.cards.specs.Files.{line_feed}
+use Rattle.command_line.specs.Misuses.{Misuse, misuse_as, missing, no_option, no_value, of_options, too_many}
 use Rattle.command_line.specs.Printed.{fault_words}
 use Rattle.command_line.specs.declared.faults.Fault.TheVariants as fault
 use Rattle.command_line.specs.declared.mistakes.Mistake.{Mistake}
-use Rattle.command_line.specs.declared.mistakes.Mistake.TheVariants.{Memory, NoText, Subcommand, Arguments, Hyphen, Value}
+use Rattle.command_line.specs.declared.mistakes.Mistake.TheVariants.{Memory, NoText, Nothing, Subcommand, Arguments, Hyphen, Value}
 use Rattle.command_line.specs.declared.statuses.Status.{Status}
 use Rattle.command_line.specs.declared.statuses.Status.TheVariants.{NotDone, Misused}
 
@@ -15,21 +16,46 @@ abbrev pub mistake_of : ErrorKind → Mistake
 mistake_of OutOfMemory = Memory
 mistake_of _ = NoText
 
+-- the line on an argument that is no subcommand, with the name that it nearly is
+abbrev pub subcommand_line : List ℕ → List ℕ → Option (List ℕ) → List ℕ
+subcommand_line program argument (Some name) = program ++ (codes ": `" ++ (argument
+    ++ (codes "` is no subcommand; did you mean `" ++ (name ++ codes "`?\n"))))
+subcommand_line program argument None =
+    program ++ (codes ": `" ++ (argument ++ codes "` is no subcommand\n"))
+
+-- the line on an argument that is no option, with the option that it nearly is
+abbrev pub option_line : List ℕ → List ℕ → Option (List ℕ) → List ℕ
+option_line program argument (Some name) = program ++ (codes ": `" ++ (argument
+    ++ (codes "` is no option of the subcommand; did you mean `--" ++ (name ++ codes "`?\n"))))
+option_line program argument None =
+    program ++ (codes ": `" ++ (argument ++ codes "` is no option of the subcommand\n"))
+
+-- the line on what is wrong with the arguments of a subcommand
+abbrev pub misuse_line : List ℕ → Misuse → List ℕ
+misuse_line program (no_option argument near) = option_line program argument near
+misuse_line program (no_value name) =
+    program ++ (codes ": `--" ++ (name ++ codes "` has no value behind it\n"))
+misuse_line program (too_many argument) =
+    program ++ (codes ": `" ++ (argument ++ codes "` is one argument too many\n"))
+misuse_line program (missing name) = program ++ (codes ": " ++ (name ++ codes " is missing\n"))
+misuse_line program of_options =
+    program ++ codes ": an option is given twice, or with a value that it does not take\n"
+
 -- the line on what is wrong with the arguments
 abbrev pub complaint_line : List ℕ → Mistake → List ℕ
 complaint_line program Memory = program ++ codes ": no memory to read the arguments\n"
 complaint_line program NoText = program ++ codes ": an argument is not UTF-8 text\n"
-complaint_line program Subcommand = program
-    ++ (codes ": the first argument names nothing that the " ++ (program ++ codes " does\n"))
-complaint_line program (Arguments usage) =
-    program ++ codes ": the arguments after the subcommand are not as it has them\n"
+complaint_line program Nothing = program ++ codes ": there is no subcommand\n"
+complaint_line program (Subcommand argument near) =
+    subcommand_line program argument.now (option_map (λ name. name.now) near)
+complaint_line program (Arguments it usage) = misuse_line program (misuse_as it)
 complaint_line program (Hyphen argument usage) = program ++ (codes ": `" ++ (argument.now
     ++ codes "` begins with a hyphen; put `--` before the values if it is one\n"))
 complaint_line program (Value said) = program ++ (codes ": " ++ (said.now ++ codes "\n"))
 
 -- how the subcommand is used that the arguments begin with, where they are not used so
 abbrev pub usage_of : Mistake → Option (List ℕ)
-usage_of (Arguments usage) = Some usage.now
+usage_of (Arguments it usage) = Some usage.now
 usage_of (Hyphen argument usage) = Some usage.now
 usage_of other = None
 

@@ -1,9 +1,11 @@
 -- programs as tables of subcommands, and what arguments ask for by them
-use Rattle.std.specs.Prelude.{◌≡◌, ◌⊎◌, ◌&&◌, ◌||◌, Bool, false, List, [], ◌∷◌, Option, Some, None, codes, find, fold, if◌then◌else◌, is_some, map, not, option_map, unwrap_or}
+use Rattle.std.specs.Prelude.{◌≡◌, ◌⊎◌, ◌&&◌, ◌||◌, Bool, false, true, List, [], ◌∷◌, Option, Some, None, codes, find, fold, if◌then◌else◌, is_some, map, not, option_map, unwrap_or}
 use Rattle.std.specs.List.{list_any}
 use Rattle.std.specs.Str.{bytes_eq}
 use Rattle.clap.specs.Words.{App, Row, Text, fault_of, subcommand_of}
 use Rattle.command_line.specs.Arguments.{given}
+use Rattle.command_line.specs.Misuses.{Arguments, Misuse, misuse, misuse_as}
+use Rattle.command_line.specs.Near.{is_near}
 use Rattle.command_line.specs.Plain.{is_odd}
 use Rattle.command_line.specs.Tables.{is_option, named, with_subcommand_named}
 use Rattle.command_line.specs.declared.mistakes.Mistake.{Mistake}
@@ -57,15 +59,26 @@ pub data Wish (R : Type 0) : Type 0 where
 abbrev pub IsHelpArgument : Text → Type 0
 IsHelpArgument argument = (argument ≡ codes "--help") ⊎ (argument ≡ codes "-h")
 
+-- whether the argument asks for help
+abbrev pub is_help : Text → Bool
+is_help argument = bytes_eq argument (codes "--help") || bytes_eq argument (codes "-h")
+
 -- the arguments ask for the version
 abbrev pub IsVersion : List Text → Type 0
 IsVersion arguments = arguments ≡ codes "--version" ∷ []
 
--- the arguments ask for the help of the subcommand that the first one names, or for the whole help
+-- whether one of the arguments asks for help, and `--` does not come before it
+unfoldable pub has_help : List Text → Bool
+has_help [] = false
+has_help (argument ∷ more) =
+    not (bytes_eq argument (codes "--")) && (is_help argument || has_help more)
+
+-- the arguments ask for the help of the subcommand that the first one names, by one behind it, or
+-- alone for the whole help
 abbrev pub AsksForHelp : {R : Type 0} → Program R → List Text → Option R → Type 0
 AsksForHelp program (argument ∷ []) None = IsHelpArgument argument
-AsksForHelp program (name ∷ argument ∷ []) (Some subcommand) =
-    IsHelpArgument argument × (subcommand_named program name ≡ Some subcommand)
+AsksForHelp program (name ∷ argument ∷ more) (Some subcommand) =
+    (has_help (argument ∷ more) ≡ true) × (subcommand_named program name ≡ Some subcommand)
 AsksForHelp program _ _ = ⊥
 
 -- clap takes the arguments by the program's command, and finds this subcommand with these arguments
@@ -125,13 +138,39 @@ stray_option program (argument ∷ more) =
     if has_dashes program (argument ∷ more) || has_options program argument then None
     else find is_odd (argument ∷ more)
 
--- this is what is wrong with arguments that ask for nothing: they begin with no subcommand's name,
--- or are not used as the subcommand is whose name comes first; one of them may be read as an option
--- there
+-- ---- arguments that ask for nothing
+
+-- the first subcommand whose name is nearly this
+abbrev pub near_subcommand : {R : Type 0} → Program R → Text → Option Text
+near_subcommand program argument =
+    option_map (λ syntax. syntax.1) (find (λ syntax. is_near syntax.1 argument) program.subcommands)
+
+-- the arguments of the subcommand with this name
+abbrev pub arguments_named : {R : Type 0} → Program R → Text → Arguments
+arguments_named program argument =
+    unwrap_or (option_map (λ syntax. syntax.2) (find (λ syntax. bytes_eq syntax.1 argument) program.subcommands)) []
+
+-- the arguments begin with this one
+abbrev pub BeginsWith : Text → List Text → Type 0
+BeginsWith argument [] = ⊥
+BeginsWith argument (first ∷ more) = first ≡ argument
+
+-- what is wrong with the arguments behind the first one, by those of the subcommand that it names
+abbrev pub misuse_begun : {R : Type 0} → Program R → List Text → Option Misuse
+misuse_begun program [] = None
+misuse_begun program (name ∷ more) = Some (misuse (arguments_named program name) more)
+
+-- this is what is wrong with arguments that ask for nothing: there are none, or the first one is no
+-- subcommand's name; or they are not used as the subcommand is whose name comes first; one of them
+-- may be read as an option there
 abbrev pub IsMisread : {R : Type 0} → Program R → List Text → Mistake → Type 0
-IsMisread program arguments mistake.Subcommand = usage_begun program arguments ≡ None
-IsMisread program arguments (mistake.Arguments usage) =
+IsMisread program arguments mistake.Nothing = arguments ≡ []
+IsMisread program arguments (mistake.Subcommand argument near) =
+    (usage_begun program arguments ≡ None) × BeginsWith argument.now arguments
+    × (near_subcommand program argument.now ≡ option_map (λ name. name.now) near)
+IsMisread program arguments (mistake.Arguments it usage) =
     (usage_begun program arguments ≡ Some usage.now) × (stray_option program arguments ≡ None)
+    × (misuse_begun program arguments ≡ Some (misuse_as it))
 IsMisread program arguments (mistake.Hyphen argument usage) =
     (usage_begun program arguments ≡ Some usage.now) × (stray_option program arguments ≡ Some argument.now)
 IsMisread program arguments _ = ⊥

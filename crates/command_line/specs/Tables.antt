@@ -22,6 +22,17 @@ is_option Flag = true
 is_option Setting = true
 is_option other = false
 
+-- whether a value of this kind cannot be left out
+abbrev pub is_needed : Kind → Bool
+is_needed Value = true
+is_needed Several = true
+is_needed other = false
+
+-- whether a value of this kind may come on and on
+abbrev pub is_several : Kind → Bool
+is_several Several = true
+is_several other = false
+
 -- the command of a subcommand: its name, and its arguments in order
 abbrev pub subcommand_app : Text → List (Text × Kind) → App
 subcommand_app name arguments =

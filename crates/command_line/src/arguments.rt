@@ -5,6 +5,7 @@ ghost use Rattle.clap.specs.Words.{all_of, found_of, rows_of};
 ghost use Rattle.command_line.specs.Arguments.{HasArgument, MayHaveArgument, given, has_flag};
 
 use crate::mistakes::Mistake;
+use crate::misuses::Misuse;
 use clap::ArgMatches;
 use std::alloc::{AllocError, Global};
 
@@ -31,12 +32,12 @@ impl<'a> Found<'a> {
     }
 
     /// Returns the value of an argument that the subcommand cannot lack.
-    pub fn needed(&self, name: &str) -> Result<&'a str, Mistake<'static>>
+    pub fn needed(&self, name: &'static str) -> Result<&'a str, Mistake<'static>>
         ensures { IfOk result (λ text. HasArgument name.now (given self.now) text.now) }
     {
         match self.value(name) {
             Some(text) => Ok(text),
-            None => Err(Mistake::Arguments(self.usage)),
+            None => Err(Mistake::Arguments(Misuse::Missing(name), self.usage)),
         }
     }
 

@@ -4,7 +4,8 @@
 //! [`asked_by`] returns what arguments ask for by such a table, and fails for arguments that ask for
 //! something only if there is no memory (`specs/Programs.antt`). A subcommand comes with its
 //! arguments as they were [`Found`], and [`tell_mistake`] prints exactly what is wrong with others
-//! (`specs/Mistakes.antt`).
+//! (`specs/Mistakes.antt`): the argument at fault, and a name that it nearly is
+//! (`specs/Misuses.antt`, `specs/Near.antt`).
 //!
 //! The bureau's own table is in `src/subcommands.rt`. Its program is called without arguments, with a
 //! subcommand and its values in their places, or for the help or the version by an argument with
@@ -15,7 +16,8 @@
 //! The contracts for the layers above: [`task_of`] returns the task that the arguments ask for, or
 //! else what is wrong with them (`specs/Tasks.antt`); [`arguments_are_those_of_the_table`] says which
 //! arguments the table takes; and what is printed, for a fault, for a mistake or as help, is exactly
-//! the text of `specs/Printed.antt` and `specs/Mistakes.antt`, or the writer failed.
+//! the text of `specs/Printed.antt` and `specs/Mistakes.antt`, or the writer failed. Names that are
+//! nearly what was given are found by [`is_near`] (`specs/Near.antt`).
 #![tactic(auto)]
 
 mod arguments;
@@ -24,6 +26,10 @@ mod faults;
 mod help;
 mod laws;
 mod mistakes;
+mod misuses;
+mod near;
+mod options;
+mod places;
 mod plain;
 mod ports;
 mod programs;
@@ -38,6 +44,8 @@ pub use errors::Unfailing;
 pub use faults::Fault;
 pub use laws::arguments_are_those_of_the_table;
 pub use mistakes::{Mistake, tell_mistake};
+pub use misuses::Misuse;
+pub use near::is_near;
 pub use programs::{Asked, Program, Syntax, asked_by};
 pub use statuses::{Status, exit_code};
 pub use subcommands::Subcommand;

@@ -2,9 +2,11 @@
 
 ghost use Rattle.std.specs.Prelude.{◌≡◌, IfOk, OnOk, option_map};
 ghost use Rattle.std.specs.Io.KnownBytes.{Appends};
-ghost use Rattle.command_line.specs.Mistakes.{complaint_line, mistake_message, mistake_status, usage_line, usage_of};
+ghost use Rattle.command_line.specs.Mistakes.{complaint_line, mistake_message, mistake_status, misuse_line, option_line, subcommand_line, usage_line, usage_of};
+ghost use Rattle.command_line.specs.Misuses.{misuse_as};
 
 use crate::faults::Fault;
+use crate::misuses::Misuse;
 use crate::statuses::Status;
 use crate::telling::tell_fault;
 use std::alloc::AllocError;
@@ -18,10 +20,12 @@ pub enum Mistake<'a> {
     Memory,
     /// An argument is not valid text.
     NoText,
-    /// The first argument is not the name of a subcommand.
-    Subcommand,
-    /// The arguments after the name of a subcommand that is used so are others.
-    Arguments(&'static str),
+    /// There is no argument.
+    Nothing,
+    /// This first argument is not the name of a subcommand; the one that it nearly is.
+    Subcommand(&'a str, Option<&'static str>),
+    /// This is wrong with the arguments after the name of a subcommand that is used so.
+    Arguments(Misuse<'a>, &'static str),
     /// This argument begins with a hyphen, and the subcommand that is used so has no options.
     Hyphen(&'a str, &'static str),
     /// A value is none, of which this is said.
@@ -53,6 +57,66 @@ impl<'a> From<io::Error> for Mistake<'a> {
     }
 }
 
+/// Writes that an argument is no subcommand.
+fn complain_of_subcommand<E: Write>(
+    errors: &mut E,
+    program: &str,
+    argument: &str,
+    near: Option<&str>,
+) -> io::Result<()>
+    ensures { OnOk result (Appends (E.contents errors.old) (E.contents errors.new)
+        (subcommand_line program.now argument.now (option_map (λ name. name.now) near.entry))) }
+{
+    match near {
+        Some(name) => writeln!(
+            errors,
+            "{program}: `{argument}` is no subcommand; did you mean `{name}`?"
+        ),
+        None => writeln!(errors, "{program}: `{argument}` is no subcommand"),
+    }
+}
+
+/// Writes that an argument is no option.
+fn complain_of_option<E: Write>(
+    errors: &mut E,
+    program: &str,
+    argument: &str,
+    near: Option<&str>,
+) -> io::Result<()>
+    ensures { OnOk result (Appends (E.contents errors.old) (E.contents errors.new)
+        (option_line program.now argument.now (option_map (λ name. name.now) near.entry))) }
+{
+    match near {
+        Some(name) => writeln!(
+            errors,
+            "{program}: `{argument}` is no option of the subcommand; did you mean `--{name}`?"
+        ),
+        None => writeln!(
+            errors,
+            "{program}: `{argument}` is no option of the subcommand"
+        ),
+    }
+}
+
+/// Writes what is wrong with the arguments of a subcommand.
+fn complain_of_misuse<E: Write>(errors: &mut E, program: &str, misuse: Misuse<'_>) -> io::Result<()>
+    ensures { OnOk result (Appends (E.contents errors.old) (E.contents errors.new)
+        (misuse_line program.now (misuse_as misuse.entry))) }
+{
+    match misuse {
+        Misuse::NoOption(argument, near) => complain_of_option(errors, program, argument, near),
+        Misuse::NoValue(name) => writeln!(errors, "{program}: `--{name}` has no value behind it"),
+        Misuse::TooMany(argument) => {
+            writeln!(errors, "{program}: `{argument}` is one argument too many")
+        }
+        Misuse::Missing(name) => writeln!(errors, "{program}: {name} is missing"),
+        Misuse::OfOptions => writeln!(
+            errors,
+            "{program}: an option is given twice, or with a value that it does not take"
+        ),
+    }
+}
+
 /// Writes what is wrong with arguments of a program.
 fn complain<E: Write>(errors: &mut E, program: &str, mistake: Mistake<'_>) -> io::Result<()>
     ensures { OnOk result (Appends (E.contents errors.old) (E.contents errors.new)
@@ -61,18 +125,11 @@ fn complain<E: Write>(errors: &mut E, program: &str, mistake: Mistake<'_>) -> io
     match mistake {
         Mistake::Memory => writeln!(errors, "{program}: no memory to read the arguments"),
         Mistake::NoText => writeln!(errors, "{program}: an argument is not UTF-8 text"),
-        Mistake::Subcommand => {
-            writeln!(
-                errors,
-                "{program}: the first argument names nothing that the {program} does"
-            )
+        Mistake::Nothing => writeln!(errors, "{program}: there is no subcommand"),
+        Mistake::Subcommand(argument, near) => {
+            complain_of_subcommand(errors, program, argument, near)
         }
-        Mistake::Arguments(_) => {
-            writeln!(
-                errors,
-                "{program}: the arguments after the subcommand are not as it has them"
-            )
-        }
+        Mistake::Arguments(misuse, _) => complain_of_misuse(errors, program, misuse),
         Mistake::Hyphen(argument, _) => {
             writeln!(
                 errors,
@@ -88,7 +145,7 @@ fn usage_of(mistake: Mistake<'_>) -> Option<&'static str>
     ensures { option_map (λ usage. usage.now) result ≡ usage_of mistake.entry }
 {
     match mistake {
-        Mistake::Arguments(usage) => Some(usage),
+        Mistake::Arguments(_, usage) => Some(usage),
         Mistake::Hyphen(_, usage) => Some(usage),
         _ => None,
     }

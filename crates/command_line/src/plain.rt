@@ -18,7 +18,7 @@ pub(crate) fn first_argument<'a>(arguments: &'a [String]) -> Option<(&'a str, &'
 }
 
 /// Whether an argument does not begin with a hyphen, or is one byte long.
-fn is_plain_argument(argument: &str) -> bool
+pub(crate) fn is_plain_argument(argument: &str) -> bool
     ensures { result ≡ is_plain argument.now }
 {
     match argument.as_bytes() {

@@ -5,13 +5,17 @@ ghost use Rattle.std.specs.List.{list_any};
 ghost use Rattle.std.specs.Str.{bytes_eq};
 ghost use Rattle.clap.specs.Words.{Row, app_of, fault_of, is_simple_and_free, subcommand_of, subcommand_rows_of};
 ghost use Rattle.clap.specs.Simple.{is_simple};
+ghost use Rattle.command_line.specs.Misuses.{arguments_as};
+ghost use Rattle.command_line.specs.Near.{is_near};
 ghost use Rattle.command_line.specs.Plain.{texts};
-ghost use Rattle.command_line.specs.Programs.{AsksFor, AsksInPlace, HasSubcommand, IsHelpArgument, IsMisread, Wish, command, has_options, program_as, subcommand_named, stray_option, usage_begun, usage_named, wish_as};
+ghost use Rattle.command_line.specs.Programs.{AsksFor, AsksInPlace, HasSubcommand, IsHelpArgument, IsMisread, Wish, arguments_named, command, has_help, has_options, is_help, near_subcommand, program_as, subcommand_named, stray_option, usage_begun, usage_named, wish_as};
 ghost use Rattle.command_line.specs.declared.mistakes.Mistake.TheVariants.{Memory};
 ghost use Rattle.command_line.specs.Tables.{is_option, with_subcommand_named};
 
 use crate::arguments::Found;
 use crate::mistakes::Mistake;
+use crate::misuses::misuse_of;
+use crate::near::is_near;
 use crate::plain::{first_argument, has_dashes, odd_argument};
 use crate::tables::{Kind, Unread, named_command, parse, with_subcommand_named};
 use clap::{ArgMatches, Command};
@@ -102,10 +106,40 @@ fn command_of<'a, R>(alloc: Global, program: &Program<R>) -> Result<Command<'a>,
 
 /// Whether an argument asks for help.
 fn is_help_argument(argument: &str) -> bool
+    ensures is { result ≡ is_help argument.now }
     ensures help { result ≡ true → IsHelpArgument argument.now }
     ensures other { result ≡ false → ¬ IsHelpArgument argument.now }
 {
     argument == "--help" || argument == "-h"
+}
+
+/// Whether one of these arguments asks for help, and `--` does not come before it.
+#[tactic(auto, unfolding(crate::specs::Programs::has_help))]
+fn has_help(arguments: &[String]) -> bool
+    ensures { result ≡ has_help (texts arguments.now) }
+{
+    let mut rest = arguments;
+    while let Some((argument, more)) = first_argument(rest) {
+        if argument == "--" {
+            return false;
+        }
+        if is_help_argument(argument) {
+            return true;
+        }
+        rest = more;
+    }
+    false
+}
+
+/// Whether this argument or one of those behind it asks for help, and `--` does not come before it.
+#[tactic(auto, unfolding(crate::specs::Programs::has_help))]
+fn has_help_from(argument: &str, more: &[String]) -> bool
+    ensures { result ≡ has_help (argument.now ∷ texts more.now) }
+{
+    if argument == "--" {
+        return false;
+    }
+    is_help_argument(argument) || has_help(more)
 }
 
 /// What one argument asks for in place of a subcommand.
@@ -126,18 +160,24 @@ fn wish_alone<'a, R: Copy>(program: &Program<R>, argument: &str) -> Option<Asked
     None
 }
 
-/// What two arguments ask for in place of a subcommand: the help of the subcommand that the first
-/// names.
-fn wish_after<'a, R: Copy>(program: &Program<R>, name: &str, argument: &str) -> Option<Asked<'a, R>>
+/// What two arguments or more ask for in place of a subcommand: the help of the subcommand that the
+/// first names.
+fn wish_after<'a, R: Copy>(
+    program: &Program<R>,
+    name: &str,
+    argument: &str,
+    more: &[String],
+) -> Option<Asked<'a, R>>
     ensures some { IfSome result (λ asked.
-        AsksFor (program_as program.now) (name.now ∷ argument.now ∷ []) (wish_as asked)) }
+        AsksFor (program_as program.now) (name.now ∷ argument.now ∷ texts more.now)
+        (wish_as asked)) }
     ensures none { IfNone result ((wish : Wish R)
-        → ¬ AsksInPlace (program_as program.now) (name.now ∷ argument.now ∷ []) wish) }
+        → ¬ AsksInPlace (program_as program.now) (name.now ∷ argument.now ∷ texts more.now) wish) }
     ensures one { IfSome result (λ asked. (wish : Wish R)
-        → AsksInPlace (program_as program.now) (name.now ∷ argument.now ∷ []) wish
+        → AsksInPlace (program_as program.now) (name.now ∷ argument.now ∷ texts more.now) wish
         → wish_as asked ≡ wish) }
 {
-    if !is_help_argument(argument) {
+    if !has_help_from(argument, more) {
         return None;
     }
     match subcommand_named(program, name) {
@@ -155,11 +195,13 @@ fn wish_in<'a, R: Copy>(program: &Program<R>, arguments: &[String]) -> Option<As
     ensures one { IfSome result (λ asked. (wish : Wish R)
         → AsksInPlace (program_as program.now) (texts arguments.now) wish → wish_as asked ≡ wish) }
 {
-    match arguments {
-        [argument] => wish_alone(program, argument.as_str()),
-        [name, argument] => wish_after(program, name.as_str(), argument.as_str()),
-        _ => None,
-    }
+    let Some((first, more)) = first_argument(arguments) else {
+        return None;
+    };
+    let Some((second, rest)) = first_argument(more) else {
+        return wish_alone(program, first);
+    };
+    wish_after(program, first, second, rest)
 }
 
 /// How the subcommand is used that arguments begin with, if they begin with one.
@@ -208,17 +250,49 @@ fn stray_option<'a, R: Copy>(program: &Program<R>, arguments: &'a [String]) -> O
     odd_argument(arguments)
 }
 
+/// How the first subcommand is written whose name is nearly this.
+fn near_syntax<'a, R>(subcommands: &'a [Syntax<R>], argument: &str) -> Option<&'a Syntax<R>>
+    ensures { option_map (λ syntax. syntax.now) result
+        ≡ find (λ syntax. is_near syntax.name.now argument.now) subcommands.entry.now }
+{
+    subcommands.iter().find(|syntax| is_near(syntax.name.as_bytes(), argument.as_bytes()))
+}
+
+/// The first subcommand whose name is nearly this.
+fn near_subcommand<R>(program: &Program<R>, argument: &str) -> Option<&'static str>
+    ensures { option_map (λ name. name.now) result
+        ≡ near_subcommand (program_as program.now) argument.now }
+{
+    match near_syntax(program.subcommands, argument) {
+        Some(syntax) => Some(syntax.name),
+        None => None,
+    }
+}
+
+/// The arguments of the subcommand with this name.
+fn arguments_named<R>(program: &Program<R>, argument: &str) -> &'static [(&'static str, Kind)]
+    ensures { arguments_as result.now ≡ arguments_named (program_as program.now) argument.now }
+{
+    match syntax_in(program.subcommands, argument) {
+        Some(syntax) => syntax.arguments,
+        None => &[],
+    }
+}
+
 /// The mistake of arguments that ask for nothing.
 pub(crate) fn mistake_in<'a, R: Copy>(program: &Program<R>, arguments: &'a [String]) -> Mistake<'a>
     ensures { IsMisread (program_as program.now) (texts arguments.entry.now) result }
 {
-    let Some(usage) = usage_begun(program, arguments) else {
-        return Mistake::Subcommand;
+    let Some((name, more)) = first_argument(arguments) else {
+        return Mistake::Nothing;
     };
-    match stray_option(program, arguments) {
-        Some(argument) => Mistake::Hyphen(argument, usage),
-        None => Mistake::Arguments(usage),
+    let Some(usage) = usage_begun(program, arguments) else {
+        return Mistake::Subcommand(name, near_subcommand(program, name));
+    };
+    if let Some(argument) = stray_option(program, arguments) {
+        return Mistake::Hyphen(argument, usage);
     }
+    Mistake::Arguments(misuse_of(arguments_named(program, name), more), usage)
 }
 
 /// What clap finds in arguments by the program's command.

@@ -27,13 +27,27 @@ pub enum Kind {
 }
 
 impl Kind {
-    ghost use Rattle.command_line.specs.Tables.{is_option};
+    ghost use Rattle.command_line.specs.Tables.{is_needed, is_option, is_several};
 
     /// Returns whether an argument of this kind is an option.
     pub(crate) fn is_option(self) -> bool
         ensures { result ≡ is_option self }
     {
         matches!(self, Kind::Flag | Kind::Setting)
+    }
+
+    /// Returns whether a value of this kind cannot be left out.
+    pub(crate) fn is_needed(self) -> bool
+        ensures { result ≡ is_needed self }
+    {
+        matches!(self, Kind::Value | Kind::Several)
+    }
+
+    /// Returns whether a value of this kind may come on and on.
+    pub(crate) fn is_several(self) -> bool
+        ensures { result ≡ is_several self }
+    {
+        matches!(self, Kind::Several)
     }
 }
 

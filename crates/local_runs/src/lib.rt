@@ -27,7 +27,7 @@ mod statuses;
 pub use assembling::assemble_deck;
 pub use deck_files::{assemble_file, run_input};
 pub use out_files::write_out;
-pub use replacing::put_file;
+pub use replacing::{put_file, replace_file};
 pub use running::{no_deck_is_cut_off, run_deck};
 pub use showing::Assembled;
 pub use statuses::status_at;

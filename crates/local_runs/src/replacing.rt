@@ -54,9 +54,9 @@ fn put_by_name(
     put
 }
 
-/// Writes bytes to the file at a path, by another name and a rename where a regular file or nothing
-/// is there.
-fn replace(rt: &HostRuntime, path: &str, bytes: &[u8]) -> io::Result<()> {
+/// Writes bytes to the file at a path, as [`put_file`] does. The error is that of the call that
+/// failed.
+pub fn replace_file(rt: &HostRuntime, path: &str, bytes: &[u8]) -> io::Result<()> {
     match fs::symlink_metadata(rt, path) {
         Ok(found) if found.is_file() => {
             OpenOptions::new().write(true).open(rt, path)?;
@@ -77,7 +77,7 @@ fn replace(rt: &HostRuntime, path: &str, bytes: &[u8]) -> io::Result<()> {
 pub fn put_file(rt: &HostRuntime, path: &str, bytes: &[u8]) -> Result<(), Fault>
     ensures { IfErr result IsWritingFault }
 {
-    match replace(rt, path, bytes) {
+    match replace_file(rt, path, bytes) {
         Ok(()) => Ok(()),
         Err(error) => Err(Fault::of_writing(&error)),
     }

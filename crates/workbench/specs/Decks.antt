@@ -1,4 +1,4 @@
--- the decks that rows read
+-- the decks that subcommands read
 use Rattle.std.specs.Prelude.{ℕ, List, Option, Some, None}
 use Rattle.card_forms.specs.Forms.{form_told}
 use Rattle.card_forms.specs.declared.forms.Form.{Form}

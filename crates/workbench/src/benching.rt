@@ -1,64 +1,15 @@
-//! The rows `trace`, `dump` and `profile`.
+//! The subcommands `trace`, `dump` and `profile`.
 
 use crate::process::Process;
+use crate::stops::{address_at, address_by, address_in};
 use crate::undone::Undone;
 use command_line::Status;
 use core_store::LARGEST_SIZE;
 use local_runs::status_at;
-use run_traces::{Account, DumpOptions, Names, TraceOptions, dump, profile, trace};
+use machine::StandingAt;
+use run_traces::{Account, DumpOptions, TraceOptions, dump, profile, trace};
 use std::io::Write;
-use texts::number_of;
 use workbench_arguments::{Dumping, Setup, Tracing};
-
-/// The address that a number is.
-fn address_at(number: u32) -> Option<u16> {
-    if number < u32::from(LARGEST_SIZE) {
-        Some(number as u16)
-    } else {
-        None
-    }
-}
-
-/// The address that a number in a text is.
-fn address_of(text: &str) -> Option<u16> {
-    match number_of(text) {
-        Some(number) => address_at(number),
-        None => None,
-    }
-}
-
-/// The address that a text names.
-fn address_in<E: Write>(text: &str, errors: &mut E) -> Result<u16, Undone> {
-    if let Some(address) = address_of(text) {
-        return Ok(address);
-    }
-    writeln!(
-        errors,
-        "--stop {text}: that is no address; one is a number from 1 to 15999"
-    )?;
-    Err(Undone::Told(Status::Misused))
-}
-
-/// The address that a text names, by the names of a source if there are some.
-fn address_by<W: Write, E: Write>(
-    process: &mut Process<W, E>,
-    text: &str,
-    names: Option<&Names>,
-) -> Result<u16, Undone> {
-    let address = match names {
-        Some(names) => names.position_named(process.alloc(), text)?,
-        None => address_of(text),
-    };
-    if let Some(address) = address {
-        return Ok(address);
-    }
-    writeln!(
-        process.errors,
-        "--stop {text}: that is no address; one is a number from 1 to 15999, or with --names a \
-         name of the source, as READ or READ&7"
-    )?;
-    Err(Undone::Told(Status::Misused))
-}
 
 /// The position that a number is; past the largest storage its last one.
 fn position_at(number: u32) -> u16 {
@@ -66,6 +17,15 @@ fn position_at(number: u32) -> u16 {
         Some(address) => address,
         None => LARGEST_SIZE - 1,
     }
+}
+
+/// What is said of a run without a stop after which the machine is still running.
+const STILL_RUNNING: &[u8] =
+    b"1,000,000 instructions were done; workbench profile shows where, trace --fields at what\n";
+
+/// Whether a machine is still running.
+fn is_running(standing: StandingAt) -> bool {
+    matches!(standing, StandingAt::Running)
 }
 
 /// Prints what is shown of a run; the status is that of the run.
@@ -90,12 +50,16 @@ pub(crate) fn trace_deck<W: Write, E: Write>(
         fields: tracing.fields,
     };
     if let Some(text) = tracing.stop {
-        options.stop = Some(address_by(process, text, names)?);
+        options.stop = Some(address_by(process, text, names, tracing.names)?);
     }
     let Setup { size, switches, .. } = tracing.setup;
     let deck = process.deck_to_run(tracing.setup.input)?;
     let account = trace(process.alloc(), &deck, size, switches, names, options)?;
-    print_account(process, &account)
+    let status = print_account(process, &account)?;
+    if tracing.stop.is_none() && is_running(account.standing) {
+        process.errors.write_all(STILL_RUNNING)?;
+    }
+    Ok(status)
 }
 
 /// Prints how often a run did each instruction.

@@ -5,7 +5,7 @@ ghost use Rattle.cards.specs.Decks.{IsDeck};
 ghost use Rattle.cards.specs.declared.Card.{Card};
 ghost use Rattle.card_forms.specs.Forms.{IsFileOf, file_of};
 
-use crate::decks::tell_form_fault;
+use crate::decks::{Named, tell_form_fault};
 use crate::process::Process;
 use crate::undone::Undone;
 use card_forms::{Form, FormFault, OUT_OF_MEMORY};
@@ -34,6 +34,13 @@ pub(crate) fn convert<W: Write, E: Write>(
     let bytes = process.read(deck.0)?;
     match converted(process.alloc(), deck.1, &bytes, out.1) {
         Ok(file) => process.write(out.0, &file),
-        Err(fault) => Err(tell_form_fault(&mut process.errors, deck.0, fault)?),
+        Err(fault) => {
+            let (path, form) = deck;
+            let file = Named {
+                path,
+                bytes: &bytes,
+            };
+            Err(tell_form_fault(&mut process.errors, file, Some(form), fault)?)
+        }
     }
 }

@@ -1,4 +1,4 @@
-//! The decks that rows read.
+//! The decks that subcommands read.
 
 ghost use Rattle.std.specs.Prelude.{◌≡◌, Option, IfOk};
 ghost use Rattle.cards.specs.Decks.{IsDeck};
@@ -13,56 +13,151 @@ use std::alloc::Global;
 use std::io;
 use std::io::Write;
 
-/// What is wrong with a file of a deck, behind the bytes that are at fault, if any are told.
-fn words_of(fault: FormFault) -> &'static str {
+/// A file that is no deck: its path, and its bytes.
+#[derive(Clone, Copy)]
+pub(crate) struct Named<'a> {
+    /// The path.
+    pub path: &'a str,
+    /// The bytes.
+    pub bytes: &'a [u8],
+}
+
+/// How many bytes a card takes in column binary.
+const CARD_BYTES: usize = 160;
+
+/// The form in which a file is read as a deck, where this one may be named. Without one a file with
+/// 240 bytes before its first line feed is a punch file.
+fn form_read(form: Option<Form>, bytes: &[u8]) -> Form {
+    if let Some(form) = form {
+        return form;
+    }
+    match bytes.iter().position(|byte| *byte == b'\n') {
+        Some(240) => Form::Punch,
+        _ => Form::Text,
+    }
+}
+
+/// Whether bytes can be only cards in column binary: no glyph that is a letter is among them.
+fn is_column_binary(bytes: &[u8]) -> bool {
+    bytes.len() % CARD_BYTES == 0 && bytes.iter().all(|byte| *byte < 64)
+}
+
+/// Whether the subcommand `punch` takes a byte that is no glyph: a small letter, a tab, a part of a
+/// line's end, the end of a text, or the first byte of the mark at the front.
+fn is_punched(fault: FormFault, byte: u8) -> bool {
+    match byte {
+        b'a'..=b'z' | b'\t' | b'\r' | 0x1A => true,
+        0xEF => fault.card == 1 && fault.column == 1,
+        _ => false,
+    }
+}
+
+/// The way out for a deck text.
+fn way_out_of_text(bytes: &[u8], fault: FormFault) -> &'static str {
+    if is_column_binary(bytes) {
+        return "; workbench convert IN OUT binary text takes column binary";
+    }
     match fault.error {
-        FormError::NoMemory => "",
-        FormError::Length if fault.column > 80 => {
-            "the line is longer than a card, or has no end; workbench punch takes such texts\n"
+        FormError::Length if fault.column <= 80 => "; workbench punch fills lines up",
+        FormError::Length => "; workbench punch takes such texts",
+        FormError::Sign(byte) if is_punched(fault, byte) => "; workbench punch takes such texts",
+        _ => "",
+    }
+}
+
+/// The way out for a text of SimH.
+fn way_out_of_signs(fault: FormFault) -> &'static str {
+    match fault.error {
+        FormError::Length => "; workbench punch takes such texts by --signs simh and --keep",
+        FormError::Sign(byte) if is_punched(fault, byte) => {
+            "; workbench punch takes such texts by --signs simh"
         }
-        FormError::Length => { "the card ends before column 80; workbench punch fills lines up\n" }
-        FormError::Sign(_) => " is no sign of this form\n",
-        FormError::Punches(_) => " is no character\n",
-        FormError::TooManyCards => "more than 2,000 cards; make two decks of it\n",
+        _ => "",
     }
 }
 
-/// Writes a byte: the character that it is, or else its number.
+/// The way out of a fault of a file, if there is one.
+fn way_out(form: Form, bytes: &[u8], fault: FormFault) -> &'static str {
+    match form {
+        Form::Text => way_out_of_text(bytes, fault),
+        Form::Simh => way_out_of_signs(fault),
+        Form::Punch => match fault.error {
+            FormError::Sign(byte) if byte.is_ascii_lowercase() => {
+                "; the digits A to F are capitals"
+            }
+            _ => "",
+        },
+        Form::Binary => match fault.error {
+            FormError::Length => "; a card has 160 bytes",
+            FormError::Sign(_) => "; a byte of column binary is below 64",
+            _ => "",
+        },
+    }
+}
+
+/// What is wrong with the length of a card.
+fn words_of_length(form: Form, column: u8) -> &'static str {
+    match form {
+        Form::Binary => "the file ends within the card",
+        _ if column <= 80 => "the card ends before column 80",
+        Form::Simh => "the line is longer than a card",
+        Form::Text => "the line is longer than a card, or has no end",
+        Form::Punch => "the line is longer than 240 digits, or has no line feed behind them",
+    }
+}
+
+/// Writes a byte that is at fault: its name or the character that it is, or else its number.
 fn tell_byte<E: Write>(errors: &mut E, byte: u8) -> io::Result<()> {
-    if !(b' '..127).contains(&byte) {
-        return write!(errors, "the byte {byte}");
+    match byte {
+        b'\t' => errors.write_all(b"a tab"),
+        b'\r' => errors.write_all(b"a carriage return"),
+        b' '..=b'~' => {
+            let sign = [byte];
+            errors.write_all(b"the character ")?;
+            errors.write_all(&sign)
+        }
+        _ => write!(errors, "the byte {byte}"),
     }
-    let sign = [byte];
-    errors.write_all(b"the character ")?;
-    errors.write_all(&sign)
 }
 
-/// Writes the bytes that are at fault, if any are told.
-fn tell_bytes<E: Write>(errors: &mut E, error: FormError) -> io::Result<()> {
-    match error {
-        FormError::Sign(byte) => tell_byte(errors, byte),
+/// Writes what is wrong with a file of a deck.
+fn tell_wrong<E: Write>(errors: &mut E, form: Form, fault: FormFault) -> io::Result<()> {
+    match fault.error {
+        FormError::NoMemory => Ok(()),
+        FormError::Length => errors.write_all(words_of_length(form, fault.column).as_bytes()),
+        FormError::Sign(byte) => {
+            tell_byte(errors, byte)?;
+            let form = form.word();
+            write!(errors, " is no sign of the form {form}")
+        }
         FormError::Punches(digits) => {
             errors.write_all(b"the pattern ")?;
-            errors.write_all(&digits)
+            errors.write_all(&digits)?;
+            errors.write_all(b" is no character")
         }
-        _ => Ok(()),
+        FormError::TooManyCards => errors.write_all(b"more than 2,000 cards; make two decks of it"),
     }
 }
 
-/// Says what is wrong with a file of a deck.
+/// Says what is wrong with a file of a deck, which was read in a form, if one was named, or in that
+/// which its first line tells.
 pub(crate) fn tell_form_fault<E: Write>(
     errors: &mut E,
-    path: &str,
+    file: Named<'_>,
+    form: Option<Form>,
     fault: FormFault,
 ) -> io::Result<Undone> {
     if let FormError::NoMemory = fault.error {
         return Ok(Undone::Memory);
     }
+    let Named { path, bytes } = file;
+    let form = form_read(form, bytes);
     let card = fault.card;
     let column = fault.column;
     write!(errors, "{path}: card {card} column {column}: ")?;
-    tell_bytes(errors, fault.error)?;
-    errors.write_all(words_of(fault).as_bytes())?;
+    tell_wrong(errors, form, fault)?;
+    let way_out = way_out(form, bytes, fault);
+    writeln!(errors, "{way_out}")?;
     Ok(Undone::Told(Status::NotDone))
 }
 

@@ -1,4 +1,4 @@
-//! The rows `card`, `deck` and `pages`.
+//! The subcommands `card`, `deck` and `pages`.
 
 use crate::process::Process;
 use crate::undone::Undone;

@@ -1,59 +1,78 @@
-//! The files that rows read.
+//! The files that subcommands read, and what is said of one that cannot be read or written.
 
 use std::fs::File;
 use std::io;
-use std::io::ErrorKind;
+use std::io::{ErrorKind, Write};
 use texts::read_up_to;
 
 /// How many bytes of a file are read at most: many times what 2,000 cards take in any form.
 const MOST_BYTES: u64 = 8_000_000;
 
-/// Why a file is not read.
-#[derive(Clone, Copy)]
-pub(crate) enum Unread {
-    /// There is no memory.
-    Memory,
-    /// It cannot be opened or read.
-    Device,
-    /// It has more bytes than any deck takes.
-    Long,
-}
-
-impl Unread {
-    /// What is said of the file.
-    pub(crate) fn words(self) -> &'static str {
-        match self {
-            Unread::Memory => "there is not enough memory to read it",
-            Unread::Device => "it cannot be read; is it there, and may it be read?",
-            Unread::Long => "it is longer than any deck; is it the right file?",
-        }
+/// The bytes of what was read; none if there are more than any deck takes.
+fn whole(bytes: Vec<u8>) -> Option<Vec<u8>> {
+    if bytes.len() as u64 > MOST_BYTES {
+        return None;
     }
+    Some(bytes)
 }
 
-/// All bytes of what was read, or why there are none.
-fn whole(read: io::Result<Vec<u8>>) -> Result<Vec<u8>, Unread> {
-    match read {
-        Ok(bytes) if bytes.len() as u64 > MOST_BYTES => Err(Unread::Long),
-        Ok(bytes) => Ok(bytes),
-        Err(error) => Err(unread_for(error.kind())),
-    }
-}
-
-/// Why a file is not read, by the error.
-fn unread_for(kind: ErrorKind) -> Unread {
-    if kind == ErrorKind::OutOfMemory {
-        return Unread::Memory;
-    }
-    Unread::Device
-}
-
-/// The bytes of the file at a path, or of the standard input for `-`.
-pub(crate) fn bytes_at(rt: &HostRuntime, path: &str) -> Result<Vec<u8>, Unread> {
+/// The bytes of the file at a path, or of the standard input for `-`; none if it has more than any
+/// deck takes.
+pub(crate) fn bytes_at(rt: &HostRuntime, path: &str) -> io::Result<Option<Vec<u8>>> {
     if path == "-" {
-        return whole(read_up_to(rt.alloc(), rt.stdin(), MOST_BYTES + 1));
+        return Ok(whole(read_up_to(rt.alloc(), rt.stdin(), MOST_BYTES + 1)?));
     }
-    match File::open(rt, path) {
-        Ok(file) => whole(read_up_to(rt.alloc(), file, MOST_BYTES + 1)),
-        Err(_) => Err(Unread::Device),
+    let file = File::open(rt, path)?;
+    Ok(whole(read_up_to(rt.alloc(), file, MOST_BYTES + 1)?))
+}
+
+/// What is said of a file that is not read, by the kind of the error; none where the error says it.
+fn words_of_reading(kind: ErrorKind) -> Option<&'static str> {
+    match kind {
+        ErrorKind::OutOfMemory => Some("there is not enough memory to read it"),
+        ErrorKind::NotFound => Some("there is no such file"),
+        ErrorKind::PermissionDenied => Some("there is no permission to read it"),
+        ErrorKind::IsADirectory => Some("it is a folder"),
+        ErrorKind::NotADirectory => Some("a part of its path is a file and no folder"),
+        _ => None,
+    }
+}
+
+/// What is said of a file that is not written, by the kind of the error; none where the error says
+/// it.
+fn words_of_writing(kind: ErrorKind) -> Option<&'static str> {
+    match kind {
+        ErrorKind::NotFound => Some("the folder that it is to be in is not there"),
+        ErrorKind::PermissionDenied => {
+            Some("there is no permission to write it, or to make a file in its folder")
+        }
+        ErrorKind::IsADirectory => Some("it is a folder"),
+        ErrorKind::NotADirectory => Some("a part of its path is a file and no folder"),
+        ErrorKind::StorageFull => Some("there is no room left on the disk"),
+        _ => None,
+    }
+}
+
+/// Says why a file is not read.
+pub(crate) fn tell_unread<E: Write>(
+    errors: &mut E,
+    path: &str,
+    error: &io::Error,
+) -> io::Result<()> {
+    match words_of_reading(error.kind()) {
+        Some(words) => writeln!(errors, "{path}: {words}"),
+        None => writeln!(errors, "{path}: it cannot be read: {error}"),
+    }
+}
+
+/// Says why a file is not written.
+pub(crate) fn tell_unwritten<E: Write>(
+    errors: &mut E,
+    path: &str,
+    error: &io::Error,
+) -> io::Result<()> {
+    match words_of_writing(error.kind()) {
+        Some(words) => writeln!(errors, "{path}: {words}"),
+        None => writeln!(errors, "{path}: it cannot be written: {error}"),
     }
 }

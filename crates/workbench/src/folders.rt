@@ -1,5 +1,6 @@
 //! The files that paths name, where a path may be that of a folder.
 
+use crate::files::tell_unread;
 use crate::process::Process;
 use std::alloc::AllocError;
 use std::fs::DirEntry;
@@ -90,9 +91,12 @@ fn take_folder<W: Write, E: Write>(
     folders: &mut Vec<String>,
     path: &str,
 ) -> io::Result<()> {
-    let Ok(entries) = fs::read_dir(&process.rt, path) else {
-        found.whole = false;
-        return process.tell(path, "the folder cannot be read; may it be read?");
+    let entries = match fs::read_dir(&process.rt, path) {
+        Ok(entries) => entries,
+        Err(error) => {
+            found.whole = false;
+            return tell_unread(&mut process.errors, path, &error);
+        }
     };
     for entry in entries {
         match entry {

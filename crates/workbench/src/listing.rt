@@ -1,4 +1,4 @@
-//! The rows `list` and `compare`.
+//! The subcommands `list` and `compare`.
 
 use crate::process::{Process, status_if};
 use crate::undone::Undone;

@@ -20,6 +20,7 @@ mod numbering;
 mod process;
 mod punching;
 mod sources;
+mod stops;
 mod talking;
 mod undone;
 

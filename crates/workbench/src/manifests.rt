@@ -7,7 +7,7 @@ ghost use Rattle.card_forms.specs.Forms.{IsFileOf};
 ghost use Rattle.card_tools.specs.Manifests.{manifest_line};
 ghost use Rattle.workbench.specs.Decks.{form_of};
 
-use crate::decks::{read_as, tell_form_fault};
+use crate::decks::{Named, read_as, tell_form_fault};
 use crate::folders::{Found, files_of};
 use crate::process::{Process, status_if};
 use crate::undone::Undone;
@@ -15,8 +15,8 @@ use card_forms::{Form, FormFault, OUT_OF_MEMORY};
 use card_tools::{ManifestEntry, manifest_line, read_manifest_line};
 use command_line::Status;
 use std::alloc::{AllocError, Global};
-use std::io;
 use std::io::Write;
+use std::{fs, io};
 
 /// The line of the deck in a file with this name.
 fn line_of(
@@ -48,33 +48,58 @@ fn line_at<W: Write, E: Write>(
     let bytes = process.read(path)?;
     match line_of(process.alloc(), path, form, &bytes) {
         Ok(line) => Ok(line),
-        Err(fault) => Err(tell_form_fault(&mut process.errors, path, fault)?),
+        Err(fault) => {
+            let file = Named {
+                path,
+                bytes: &bytes,
+            };
+            Err(tell_form_fault(&mut process.errors, file, form, fault)?)
+        }
     }
 }
 
 /// The lines of decks, and whether there is one for each deck.
 #[derive(Drop)]
-struct Lines {
+struct Lines<'a> {
     /// The lines, one after the other.
     text: Vec<u8>,
+    /// The names of files that are there, and without a line.
+    damaged: Vec<&'a str>,
     /// Whether no deck is without a line.
     whole: bool,
 }
 
+/// Adds the name of a file without a line to those that are there, if it is.
+fn take_damaged<'a>(
+    rt: &HostRuntime,
+    damaged: &mut Vec<&'a str>,
+    path: &'a str,
+) -> Result<(), AllocError> {
+    if fs::metadata(rt, path).is_ok() {
+        damaged.push(path)?;
+    }
+    Ok(())
+}
+
 /// The lines of the decks in files, one for each path. Where there is none, that is told.
-fn lines_at<W: Write, E: Write>(
+fn lines_at<'a, W: Write, E: Write>(
     process: &mut Process<W, E>,
-    files: &Found,
+    files: &'a Found,
     form: Option<Form>,
-) -> Result<Lines, Undone> {
+) -> Result<Lines<'a>, Undone> {
     let mut lines = Lines {
         text: Vec::new(process.alloc()),
+        damaged: Vec::new(process.alloc()),
         whole: files.whole,
     };
     for path in &files.paths {
-        match line_at(process, path.as_str(), form) {
+        let path = path.as_str();
+        match line_at(process, path, form) {
             Ok(line) => lines.text.extend_from_slice(&line)?,
-            Err(Undone::Told(_)) => lines.whole = false,
+            Err(Undone::Told(_)) => {
+                lines.whole = false;
+                take_damaged(&process.rt, &mut lines.damaged, path)?;
+            }
             Err(Undone::Memory) => return Err(Undone::Memory),
         }
     }
@@ -153,13 +178,20 @@ fn push_told(told: &mut Vec<u8>, word: &[u8], name: &[u8]) -> Result<(), AllocEr
     Ok(())
 }
 
-/// What has become of a deck that a manifest knows: whether it is missing or different.
+/// Whether a name is among these.
+fn is_among(name: &[u8], names: &[&str]) -> bool {
+    names.iter().any(|other| other.as_bytes() == name)
+}
+
+/// What has become of a deck that a manifest knows: whether it is missing, damaged or different.
 fn push_changed(
     told: &mut Vec<u8>,
     entry: ManifestEntry<'_>,
     found: &[&[u8]],
+    damaged: &[&str],
 ) -> Result<(), AllocError> {
     match entry_named(found, entry.name) {
+        None if is_among(entry.name, damaged) => push_told(told, b"damaged ", entry.name),
         None => push_told(told, b"missing ", entry.name),
         Some(other) if other.digest != entry.digest => {
             push_told(told, b"different ", entry.name)
@@ -168,12 +200,18 @@ fn push_changed(
     }
 }
 
-/// In what decks differ from those that a manifest knows, by their lines.
-fn differences(alloc: Global, known: &[&[u8]], found: &[&[u8]]) -> Result<Vec<u8>, AllocError> {
+/// In what decks differ from those that a manifest knows, by their lines. Files without a line are
+/// damaged.
+fn differences(
+    alloc: Global,
+    known: &[&[u8]],
+    found: &[&[u8]],
+    damaged: &[&str],
+) -> Result<Vec<u8>, AllocError> {
     let mut told = Vec::new(alloc);
     for line in known {
         if let Some(entry) = read_manifest_line(*line) {
-            push_changed(&mut told, entry, found)?;
+            push_changed(&mut told, entry, found, damaged)?;
         }
     }
     for line in found {
@@ -202,14 +240,14 @@ fn tell_odd_lines<E: Write>(errors: &mut E, path: &str, known: &[&[u8]]) -> io::
 /// Compares decks with those that a manifest's file knows.
 fn check_manifest<W: Write, E: Write>(
     process: &mut Process<W, E>,
-    lines: &Lines,
+    lines: &Lines<'_>,
     path: &str,
 ) -> Result<Status, Undone> {
     let known = process.read(path)?;
     let known = lines_of(process.alloc(), &known)?;
     let found = lines_of(process.alloc(), &lines.text)?;
     let are_all = tell_odd_lines(&mut process.errors, path, &known)?;
-    let told = differences(process.alloc(), &known, &found)?;
+    let told = differences(process.alloc(), &known, &found, &lines.damaged)?;
     let is_same = told.is_empty() && lines.whole && are_all;
     process.print(&told, status_if(is_same))
 }

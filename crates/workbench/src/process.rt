@@ -1,19 +1,19 @@
-//! The process in which a row is done.
+//! The process in which a subcommand is done.
 
 ghost use Rattle.std.specs.Prelude.{◌<◌, length, IfOk};
 
-use crate::decks::{read_as, tell_form_fault};
-use crate::files::bytes_at;
+use crate::decks::{Named, read_as, tell_form_fault};
+use crate::files::{bytes_at, tell_unread, tell_unwritten};
 use crate::undone::Undone;
 use cards::Deck;
-use command_line::{Fault, Status, put_out};
-use local_runs::put_file;
+use command_line::{Status, put_out};
+use local_runs::replace_file;
 use run_traces::Names;
 use std::alloc::Global;
 use std::io;
-use std::io::Write;
+use std::io::{ErrorKind, Write};
 
-/// The process in which a row is done: the system with its files, and two outputs.
+/// The process in which a subcommand is done: the system with its files, and two outputs.
 #[derive(Drop)]
 pub(crate) struct Process<W, E> {
     /// The system.
@@ -24,7 +24,7 @@ pub(crate) struct Process<W, E> {
     pub errors: E,
 }
 
-/// The status of a row that found all as it should be, or did not.
+/// The status of a subcommand that found all as it should be, or did not.
 pub(crate) fn status_if(is_right: bool) -> Status {
     if is_right {
         Status::Done
@@ -44,7 +44,7 @@ impl<W: Write, E: Write> Process<W, E> {
         writeln!(self.errors, "{path}: {why}")
     }
 
-    /// Says why a row is not done with a file.
+    /// Says why a subcommand is not done with a file.
     pub(crate) fn refuse(&mut self, path: &str, why: &str) -> io::Result<Undone> {
         self.tell(path, why)?;
         Ok(Undone::Told(Status::NotDone))
@@ -65,21 +65,25 @@ impl<W: Write, E: Write> Process<W, E> {
         if path == "-" {
             return self.print(bytes, Status::Done);
         }
-        match put_file(&self.rt, path, bytes) {
-            Ok(()) => Ok(Status::Done),
-            Err(Fault::Memory) => Err(Undone::Memory),
-            Err(_) => Err(self.refuse(
-                path,
-                "it cannot be written; look at its permissions, and for a full disk",
-            )?),
+        let Err(error) = replace_file(&self.rt, path, bytes) else {
+            return Ok(Status::Done);
+        };
+        if error.kind() == ErrorKind::OutOfMemory {
+            return Err(Undone::Memory);
         }
+        tell_unwritten(&mut self.errors, path, &error)?;
+        Err(Undone::Told(Status::NotDone))
     }
 
     /// The bytes of the file at a path, or of the standard input for `-`.
     pub(crate) fn read(&mut self, path: &str) -> Result<Vec<u8>, Undone> {
         match bytes_at(&self.rt, path) {
-            Ok(bytes) => Ok(bytes),
-            Err(why) => Err(self.refuse(path, why.words())?),
+            Ok(Some(bytes)) => Ok(bytes),
+            Ok(None) => Err(self.refuse(path, "it has more bytes than any deck of 2,000 cards")?),
+            Err(error) => {
+                tell_unread(&mut self.errors, path, &error)?;
+                Err(Undone::Told(Status::NotDone))
+            }
         }
     }
 
@@ -88,7 +92,13 @@ impl<W: Write, E: Write> Process<W, E> {
         let bytes = self.read(path)?;
         match read_as(self.alloc(), None, &bytes) {
             Ok(deck) => Ok(deck),
-            Err(fault) => Err(tell_form_fault(&mut self.errors, path, fault)?),
+            Err(fault) => {
+                let file = Named {
+                    path,
+                    bytes: &bytes,
+                };
+                Err(tell_form_fault(&mut self.errors, file, None, fault)?)
+            }
         }
     }
 
@@ -98,7 +108,7 @@ impl<W: Write, E: Write> Process<W, E> {
     {
         let deck = self.deck_at(path)?;
         if deck.cards().is_empty() {
-            return Err(self.refuse(path, "the deck has no card; is it the right file?")?);
+            return Err(self.refuse(path, "the file is empty: the deck has no card")?);
         }
         Ok(deck)
     }

@@ -77,8 +77,21 @@ fn tell_text_fault<E: Write>(errors: &mut E, fault: TextFault) -> io::Result<()>
     }
 }
 
+/// Whether the first line of a text is one of a punch file, but that its digits may be small.
+fn is_punch_file(text: &[u8]) -> bool {
+    match text.get(..240) {
+        Some(line) => line.iter().all(|digit| digit.is_ascii_hexdigit()),
+        None => false,
+    }
+}
+
 /// Says what is wrong with the lines of a text.
-fn tell_text_faults<E: Write>(errors: &mut E, faults: &[TextFault]) -> io::Result<()> {
+fn tell_text_faults<E: Write>(errors: &mut E, text: &[u8], faults: &[TextFault]) -> io::Result<()> {
+    if is_punch_file(text) {
+        return errors.write_all(
+            b"its lines have the digits of a punch file; workbench convert IN OUT punch text\n",
+        );
+    }
     for fault in faults.iter().take(MOST_FAULTS) {
         tell_text_fault(errors, *fault)?;
     }
@@ -102,7 +115,7 @@ fn punched<E: Write>(
     match punch(alloc, rules, text) {
         Ok(deck) => Ok(deck),
         Err(Unpunched::Faults(faults)) => {
-            tell_text_faults(errors, &faults)?;
+            tell_text_faults(errors, text, &faults)?;
             Err(Undone::Told(Status::NotDone))
         }
         Err(Unpunched::NoMemory) => Err(Undone::Memory),

@@ -5,7 +5,7 @@ use crate::undone::Undone;
 use command_line::Status;
 use console::{Ended, Session, console};
 use std::io;
-use std::io::Write;
+use std::io::{BufReader, Write};
 use workbench_arguments::Setup;
 
 /// Says that an input would be the standard input, which has the lines.
@@ -52,7 +52,8 @@ pub(crate) fn talk<W: Write, E: Write>(
     let deck = process.deck_to_run(setup.input)?;
     let names = process.names_at(names)?;
     let mut session = Session::begin(process.alloc(), deck, setup.size, setup.switches, names)?;
-    let mut lines = process.rt.reader();
+    // Reading ahead: the standard input by itself is asked for each byte.
+    let mut lines = BufReader::new(process.alloc(), process.rt.stdin())?;
     let ended = console(
         process.alloc(),
         &mut session,

@@ -1,10 +1,10 @@
-//! Why a row is not done.
+//! Why a subcommand is not done.
 
 use command_line::Status;
 use std::alloc::AllocError;
 use std::io;
 
-/// Why a row is not done.
+/// Why a subcommand is not done.
 #[derive(Clone, Copy)]
 pub(crate) enum Undone {
     /// There is no memory. That is still to be told.
@@ -24,7 +24,7 @@ impl From<AllocError> for Undone {
     }
 }
 
-/// Nothing but want of memory is an error of a row, since the second output has none.
+/// Nothing but want of memory is an error of a subcommand, since the second output has none.
 impl From<io::Error> for Undone {
     ghost use Rattle.std.specs.Prelude.{◌≡◌};
     ghost use Rattle.workbench.specs.declared.undone.Undone.TheVariants.{Memory};

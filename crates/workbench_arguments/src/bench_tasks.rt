@@ -8,7 +8,7 @@ ghost use Rattle.units.specs.Switches.{AreSeven};
 ghost use Rattle.workbench_arguments.specs.Tasks.{GivesCount, GivesNumber, HasCount, HasNumber, IsSetup, WantsConsole, WantsDump, WantsProfile, WantsTrace};
 ghost use Rattle.workbench_arguments.specs.Values.{IsCount};
 
-use crate::complaints::NO_NUMBER;
+use crate::complaints::{NO_AFTER, NO_COUNT, NO_FIRST, NO_FROM, NO_LAST};
 use crate::tasks::{Dumping, Setup, Task, Tracing, number};
 use crate::values::count_of;
 use command_line::{Found, Mistake, SIZE_COMPLAINT, SWITCHES_COMPLAINT};
@@ -34,7 +34,10 @@ fn switches_in(found: &Found<'_>) -> Result<Switches, Mistake<'static>>
 }
 
 /// What a machine begins with, whose deck or source is in an argument.
-pub(crate) fn setup_in<'a>(found: &Found<'a>, name: &str) -> Result<Setup<'a>, Mistake<'static>>
+pub(crate) fn setup_in<'a>(
+    found: &Found<'a>,
+    name: &'static str,
+) -> Result<Setup<'a>, Mistake<'static>>
     ensures { IfOk result (IsSetup name.now (given found.now)) }
 {
     Ok(Setup {
@@ -44,29 +47,37 @@ pub(crate) fn setup_in<'a>(found: &Found<'a>, name: &str) -> Result<Setup<'a>, M
     })
 }
 
-/// A number that may be 0.
-fn count(text: &str) -> Result<u32, Mistake<'static>>
+/// A number that may be 0. Of another text this is said.
+fn count(text: &str, complaint: &'static str) -> Result<u32, Mistake<'static>>
     ensures { IfOk result (IsCount text.now) }
 {
-    count_of(text).ok_or(Mistake::Value(NO_NUMBER))
+    count_of(text).ok_or(Mistake::Value(complaint))
 }
 
-/// The number of an option, if it is given.
-fn number_in(found: &Found<'_>, name: &str) -> Result<Option<u32>, Mistake<'static>>
+/// The number of an option, if it is given. Of another text this is said.
+fn number_in(
+    found: &Found<'_>,
+    name: &str,
+    complaint: &'static str,
+) -> Result<Option<u32>, Mistake<'static>>
     ensures { IfOk result (λ number. GivesNumber name.now (given found.now) number) }
 {
     match found.value(name) {
-        Some(text) => Ok(Some(number(text)?)),
+        Some(text) => Ok(Some(number(text, complaint)?)),
         None => Ok(None),
     }
 }
 
-/// The number of an option that may be 0, if it is given.
-fn count_in(found: &Found<'_>, name: &str) -> Result<Option<u32>, Mistake<'static>>
+/// The number of an option that may be 0, if it is given. Of another text this is said.
+fn count_in(
+    found: &Found<'_>,
+    name: &str,
+    complaint: &'static str,
+) -> Result<Option<u32>, Mistake<'static>>
     ensures { IfOk result (λ count. GivesCount name.now (given found.now) count) }
 {
     match found.value(name) {
-        Some(text) => Ok(Some(count(text)?)),
+        Some(text) => Ok(Some(count(text, complaint)?)),
         None => Ok(None),
     }
 }
@@ -78,7 +89,7 @@ fn from_in(found: &Found<'_>) -> Result<u32, Mistake<'static>>
     let Some(text) = found.value("from") else {
         return Ok(1);
     };
-    number(text)
+    number(text, NO_FROM)
 }
 
 /// The number of `--count`; 1,000 where it is not given.
@@ -89,7 +100,7 @@ fn shown_in(found: &Found<'_>) -> Result<u32, Mistake<'static>>
     let Some(text) = found.value("count") else {
         return Ok(1000);
     };
-    count(text)
+    count(text, NO_COUNT)
 }
 
 /// The task of a subcommand `trace`.
@@ -112,10 +123,10 @@ pub(crate) fn dump_task<'a>(found: &Found<'a>) -> Result<Task<'a>, Mistake<'stat
 {
     Ok(Task::Dump(Dumping {
         setup: setup_in(found, "DECK")?,
-        after: count_in(found, "after")?,
+        after: count_in(found, "after", NO_AFTER)?,
         stop: found.value("stop"),
-        first: count_in(found, "first")?,
-        last: number_in(found, "last")?,
+        first: count_in(found, "first", NO_FIRST)?,
+        last: number_in(found, "last", NO_LAST)?,
     }))
 }
 

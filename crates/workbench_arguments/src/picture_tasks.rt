@@ -5,6 +5,7 @@ ghost use Rattle.command_line.specs.Arguments.{given};
 ghost use Rattle.workbench_arguments.specs.Tasks.{WantsCard, WantsDeck, WantsPage, WantsPages};
 
 use crate::bench_tasks::setup_in;
+use crate::complaints::NO_CARD;
 use crate::tasks::{Task, number};
 use command_line::{Found, Mistake};
 
@@ -13,7 +14,7 @@ pub(crate) fn card_task<'a>(found: &Found<'a>) -> Result<Task<'a>, Mistake<'stat
     ensures { IfOk result (WantsCard (given found.now)) }
 {
     let deck = found.needed("DECK")?;
-    let number = number(found.needed("N")?)?;
+    let number = number(found.needed("N")?, NO_CARD)?;
     let out = found.needed("OUT")?;
     Ok(Task::Card { deck, number, out })
 }

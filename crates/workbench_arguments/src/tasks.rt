@@ -11,7 +11,8 @@ ghost use Rattle.workbench_arguments.specs.Values.{IsNumeral};
 
 use crate::bench_tasks::{console_task, dump_task, profile_task, trace_task};
 use crate::complaints::{
-    NO_COLUMN, NO_EMPTY_LINE, NO_FORM, NO_NUMBER, NO_SIGNS, NO_TABS, NO_WIDTH,
+    NO_COLUMN, NO_EMPTY_LINE, NO_FIRST_NUMBER, NO_FORM, NO_FORM_READ, NO_FORM_WRITTEN, NO_SIGNS,
+    NO_STEP, NO_TABS, NO_WIDTH,
 };
 use crate::help::{VERSION, page};
 use crate::picture_tasks::{card_task, deck_task, page_task, pages_task};
@@ -287,11 +288,11 @@ fn compare_task<'a>(found: &Found<'a>) -> Result<Task<'a>, Mistake<'static>>
     Ok(Task::Compare { one, other })
 }
 
-/// A number of 1 to 9 digits without a zero in front.
-pub(crate) fn number(text: &str) -> Result<u32, Mistake<'static>>
+/// A number of 1 to 9 digits without a zero in front. Of another text this is said.
+pub(crate) fn number(text: &str, complaint: &'static str) -> Result<u32, Mistake<'static>>
     ensures { IfOk result (IsNumeral text.now) }
 {
-    number_of(text).ok_or(Mistake::Value(NO_NUMBER))
+    number_of(text).ok_or(Mistake::Value(complaint))
 }
 
 /// The task of a subcommand `sequence`: with one value a check, with five a numbering.
@@ -306,17 +307,21 @@ fn sequence_task<'a>(found: &Found<'a>) -> Result<Task<'a>, Mistake<'static>>
         deck,
         out: found.needed("OUT")?,
         ident: found.needed("IDENT")?,
-        first: number(found.needed("FIRST")?)?,
-        step: number(found.needed("STEP")?)?,
+        first: number(found.needed("FIRST")?, NO_FIRST_NUMBER)?,
+        step: number(found.needed("STEP")?, NO_STEP)?,
     }))
 }
 
-/// The form that an argument names.
-fn form_in(found: &Found<'_>, name: &str) -> Result<Form, Mistake<'static>>
+/// The form that an argument names. Of another text this is said.
+fn form_in(
+    found: &Found<'_>,
+    name: &'static str,
+    complaint: &'static str,
+) -> Result<Form, Mistake<'static>>
     ensures { IfOk result (λ form.
         HasArgument name.now (given found.now) (word_of form)) }
 {
-    Form::of(found.needed(name)?).ok_or(Mistake::Value(NO_FORM))
+    Form::of(found.needed(name)?).ok_or(Mistake::Value(complaint))
 }
 
 /// The task of a subcommand `convert`.
@@ -326,8 +331,8 @@ fn convert_task<'a>(found: &Found<'a>) -> Result<Task<'a>, Mistake<'static>>
     Ok(Task::Convert {
         deck: found.needed("IN")?,
         out: found.needed("OUT")?,
-        reads: form_in(found, "FROM")?,
-        writes: form_in(found, "TO")?,
+        reads: form_in(found, "FROM", NO_FORM_READ)?,
+        writes: form_in(found, "TO", NO_FORM_WRITTEN)?,
     })
 }
 
