@@ -9,20 +9,24 @@ use crate::subcommands::Subcommand;
 pub const HELP: &str = "\
 operator: what the operator of a bureau does, beside the bureau's own program.
 
-  operator check FILE              runs each job of a bureau's file again, and compares
-  operator jobs FILE [CUSTOMER]    lists the jobs of a bureau's file
-  operator copy FILE NEW           writes a whole copy of a bureau's file, and compares it
-  operator part FILE NEW CUSTOMER..
-                                   writes a new bureau's file with these customers' jobs
-  operator join FIRST SECOND NEW   writes a new bureau's file with the jobs of two
-  operator archive FILE FOLDER     writes each job's decks, cards and lines into a folder
-  operator work PORT [OPTIONS]     runs the queue of a bureau that is served, in fair turns
-  operator watch PORT [OPTIONS]    tells what comes into that queue, and what leaves it
-  operator --help, --version
+usage: operator SUBCOMMAND ARGUMENTS.. [OPTIONS]
 
-operator SUBCOMMAND --help says all of one. Status 0: all was done, and nothing differs. Status 1:
-something differs or failed, and was printed. Status 2: the arguments are not as above. Status 3:
-the bureau's file could not be used.
+  check FILE              runs each job of a bureau's file again, and compares
+  jobs FILE [CUSTOMER]    lists the jobs of a bureau's file
+  copy FILE NEW           writes a whole copy of a bureau's file, and compares
+  part FILE NEW [--others] CUSTOMER..
+                          writes a new bureau's file with these customers' jobs
+  join FIRST SECOND NEW   writes a new bureau's file with the jobs of two
+  archive FILE FOLDER     writes each job's decks, cards and lines into a folder
+  work PORT [OPTIONS]     runs the queue of a bureau that is served, in turns
+  watch PORT [OPTIONS]    tells what comes into that queue, and what leaves it
+
+  operator SUBCOMMAND --help   prints the help of one subcommand (or -h)
+  operator --help, --version   prints this text, or the version
+
+Status 0: all was done, and nothing differs. Status 1: something differs or
+failed, and was printed. Status 2: the arguments are not as above. Status 3: the
+bureau's file could not be used.
 ";
 
 /// The text that `check --help` prints.
@@ -34,10 +38,11 @@ FILE  the bureau's file, which no other program has open
 example:
   operator check my.bureau
 
-Each row of each table is read. Each job is run again from its deck, by its starts and the
-instructions that it was granted, and its cards, lines and machine are compared with what the rows
-hold. A line is printed for each job, with the first row that differs, and at the end a sum. If
-nothing differs the file holds a bureau whose jobs did what they did, and nothing else. The file is
+Each row of each table is read. Each job is run again from its deck, by its
+starts and the instructions that it was granted, and its cards, lines and
+machine are compared with what the rows hold. A line is printed for each job,
+with the first row that differs, and at the end a sum. If nothing differs the
+file holds a bureau whose jobs did what they did, and nothing else. The file is
 not changed. Status 1: something differs.
 ";
 
@@ -52,10 +57,10 @@ example:
   operator jobs my.bureau
   operator jobs my.bureau ACME
 
-A line is printed for each job, in the order in which the jobs were taken: its customer and number,
-how it stands, held and collected where it is, and how many instructions it was granted, how many
-cards it has punched and how many lines it has printed. The file is not changed. Status 3: the file
-could not be used.
+A line is printed for each job, in the order in which the jobs were taken: its
+customer and number, how it stands, held and collected where it is, and how many
+instructions it was granted, how many cards it has punched and how many lines it
+has printed. The file is not changed. Status 3: the file could not be used.
 ";
 
 /// The text that `copy --help` prints.
@@ -68,15 +73,17 @@ NEW   the copy; no file of this name may be there
 example:
   operator copy my.bureau my.copy
 
-The copy is one file with no log beside it. It is read back, and each row of it is compared with
-that of FILE. FILE is not changed. If the copy is killed, NEW is not there, or it is whole; a file
-NEW.1.part beside it may be removed. Status 1: the copy differs, and there is none, or there was no
-memory. Status 3: FILE could not be used, or NEW could not be made or is there already.
+The copy is one file with no log beside it. It is read back, and each row of it
+is compared with that of FILE. FILE is not changed. If the copy is killed, NEW
+is not there, or it is whole; a file NEW.1.part beside it may be removed. Status
+1: the copy differs, and there is none, or there was no memory. Status 3: FILE
+could not be used, or NEW could not be made or is there already.
 ";
 
 /// The text that `part --help` prints.
 pub const PART_HELP: &str = "\
-operator part FILE NEW [--others] CUSTOMER..: writes a new bureau's file with these customers' jobs.
+operator part FILE NEW [--others] CUSTOMER..: writes a new bureau's file with
+these customers' jobs.
 
 FILE      the bureau's file, which no other program has open
 NEW       the new file; no file of this name may be there
@@ -87,35 +94,40 @@ example:
   operator part my.bureau acme.bureau ACME
   operator part my.bureau rest.bureau --others ACME
 
-NEW is a bureau's file with no log beside it. It has each job of these customers with its decks,
-starts, cards and lines, and the jobs are in the order that they have in FILE. It is read back, and
-each row of it is compared with that of FILE. FILE is not changed. If part is killed, NEW is not
-there, or it is whole; a file NEW.1.part beside it may be removed. Status 1: there is no job of a
-customer, or something differs, and there is no NEW; or there was no memory. Status 3: FILE could
-not be used, or NEW could not be made or is there already.
+NEW is a bureau's file with no log beside it. It has each job of these customers
+with its decks, starts, cards and lines, and the jobs are in the order that they
+have in FILE. It is read back, and each row of it is compared with that of FILE.
+FILE is not changed. If part is killed, NEW is not there, or it is whole; a file
+NEW.1.part beside it may be removed. Status 1: there is no job of a customer, or
+something differs, and there is no NEW; or there was no memory. Status 3: FILE
+could not be used, or NEW could not be made or is there already.
 ";
 
 /// The text that `join --help` prints.
 pub const JOIN_HELP: &str = "\
 operator join FIRST SECOND NEW: writes a new bureau's file with the jobs of two.
 
-FIRST, SECOND  the bureaus' files, which no other program has open; no customer has jobs in both
+FIRST, SECOND  the bureaus' files, which no other program has open; no customer
+               has jobs in both
 NEW            the new file; no file of this name may be there
 
 example:
   operator join our.bureau acme.bureau new.bureau
 
-NEW is a bureau's file with no log beside it. It has each job of FIRST and then each of SECOND, with
-its decks, starts, cards and lines. It is read back, and each row of it is compared with that of its
-file. FIRST and SECOND are not changed. If join is killed, NEW is not there, or it is whole; a file
-NEW.1.part beside it may be removed. Status 1: a customer has jobs in both, or something differs,
-and there is no NEW; or there was no memory. Status 3: FIRST or SECOND could not be used, or they
-are one file, or NEW could not be made or is there already.
+NEW is a bureau's file with no log beside it. It has each job of FIRST and then
+each of SECOND, with its decks, starts, cards and lines. It is read back, and
+each row of it is compared with that of its file. FIRST and SECOND are not
+changed. If join is killed, NEW is not there, or it is whole; a file NEW.1.part
+beside it may be removed. Status 1: a customer has jobs in both, or something
+differs, and there is no NEW; or there was no memory. Status 3: FIRST or SECOND
+could not be used, or they are one file, or NEW could not be made or is there
+already.
 ";
 
 /// The text that `archive --help` prints.
 pub const ARCHIVE_HELP: &str = "\
-operator archive FILE FOLDER: writes each job's decks, cards and lines into a folder.
+operator archive FILE FOLDER: writes each job's decks, cards and lines into a
+folder.
 
 FILE    the bureau's file, which no other program has open
 FOLDER  the folder that the jobs' folders stand in
@@ -123,62 +135,70 @@ FOLDER  the folder that the jobs' folders stand in
 example:
   operator archive my.bureau archive
 
-Each job is run again as check does. For each one that is as it ran a folder FOLDER/CUSTOMER/NUMBER
-is written, with deck.text (as it was submitted), loaded.text (as the machine read it), lines.text,
-cards.punch, cards.text, and record: the customer, the number, the kind, the size, the switches and
-the granted instructions of each stretch, how the job stands, whether it is held and collected, and
-the SHA-256 of each file. A folder that is there already is compared and not written. The bureau's
-file is not changed. Status 1: something differs, or could not be written.
+Each job is run again as check does. For each one that is as it ran a folder
+FOLDER/CUSTOMER/NUMBER is written, with deck.text (as it was submitted),
+loaded.text (as the machine read it), lines.text, cards.punch, cards.text, and
+record: the customer, the number, the kind, the size, the switches and the
+granted instructions of each stretch, how the job stands, whether it is held and
+collected, and the SHA-256 of each file. A folder that is there already is
+compared and not written. The bureau's file is not changed. Status 1: something
+differs, or could not be written.
 ";
 
 /// The text that `work --help` prints.
 pub const WORK_HELP: &str = "\
-operator work PORT [--slice N] [--rounds N] [--pause SECONDS]: runs the queue of a bureau that is
-served, in fair turns.
+operator work PORT [--slice N] [--rounds N] [--pause SECONDS]: runs the queue of
+a bureau that is served, in fair turns.
 
 PORT             the port on 127.0.0.1 at which bureau serve listens
 --slice N        the instructions of a slice, 1 to 2,000; without it 2,000
---rounds N       the work ends after so many rounds; without it when the queue is empty
---pause SECONDS  how long to wait after a request that failed, and after a round in which no slice
-                 ran; without it 1
+--rounds N       the work ends after so many rounds; without it when the queue
+                 is empty
+--pause SECONDS  how long to wait after a request that failed, and after a round
+                 in which no slice ran; without it 1
 
 example:
   operator work 8014
   operator work 8014 --slice 500 --rounds 10
 
-A round asks for the queue, and then for one slice of each job in it. A job that has stopped is
-printed with its standing and the instructions that it did here. A job that another request was
-faster for is passed over. A request that could not be made is made again after the pause, ten times
-at most; one that was sent and not answered is never sent again within its round. After a round in
-which no slice ran the next one waits for the pause. After ten such rounds, or one that is the last
-of --rounds, the work ends with status 1. Status 1 also: the bureau did not answer, or what answers
-is no bureau.
+A round asks for the queue, and then for one slice of each job in it. A job that
+has stopped is printed with its standing and the instructions that it did here.
+A job that another request was faster for is passed over. A request that could
+not be made is made again after the pause, ten times at most; one that was sent
+and not answered is never sent again within its round. After a round in which no
+slice ran the next one waits for the pause. After ten such rounds, or one that
+is the last of --rounds, the work ends with status 1. Status 1 also: the bureau
+did not answer, or what answers is no bureau.
 ";
 
 /// The text that `watch --help` prints.
 pub const WATCH_HELP: &str = "\
-operator watch PORT [--rounds N] [--pause SECONDS]: tells what comes into the queue of a bureau that
-is served, and what leaves it.
+operator watch PORT [--rounds N] [--pause SECONDS]: tells what comes into the
+queue of a bureau that is served, and what leaves it.
 
 PORT             the port on 127.0.0.1 at which bureau serve listens
---rounds N       how often the queue is asked for; without it until the program is stopped
+--rounds N       how often the queue is asked for; without it until the program
+                 is stopped
 --pause SECONDS  how long to wait before it is asked for again; without it 5
 
 example:
   operator watch 8014
   operator watch 8014 --rounds 100 --pause 60
 
-It asks only for the queue and for how jobs stand, so it changes nothing. It prints:
+It asks only for the queue and for how jobs stand, so it changes nothing. It
+prints:
 
   queue empty            no job is in the queue, when it is asked for first
   ACME 9 came            a job is in the queue that was not
   ACME 9 left: halted next 361, granted 2034, cards 0, lines 2
-                         a job is no longer in the queue: how it stands, also held or collected
+                         a job is no longer in the queue: how it stands, also
+                         held or collected
   port 8014: no answer   the bureau could be asked no longer
   port 8014: answers again
 
-The jobs that left are printed before those that came, each in the order of its queue. What came and
-left between two requests is not seen. Status 1: what answers is no bureau.
+The jobs that left are printed before those that came, each in the order of its
+queue. What came and left between two requests is not seen. Status 1: what
+answers is no bureau.
 ";
 
 /// The text that `--version` prints: the version, and the logic that the program is proved in.
