@@ -18,7 +18,6 @@ use Rattle.source_reports.specs.OperandStops.{stop_of}
 use Rattle.source_reports.specs.OperationNames.{is_near, name_at, near_in}
 use Rattle.source_reports.specs.ToldOperations.{IsOnlyNearName, AreFormsOfRow, IsCaretAtStop}
 use Rattle.source_reports.specs.declared.operand_causes.Cause.{Cause}
-use Rattle.source_reports.specs.declared.operand_causes.Cause.TheVariants as cause
 use Rattle.source_reports.proofs.NearLaw.{only_one}
 
 -- ---- a name that is nearly the same
@@ -40,7 +39,7 @@ by_position : (field name : List ℕ) (found : Option ℕ) → count_by (is_near
     → position (is_near field) names ≡ found → option_map (name_at names) found ≡ Some name
     → IsOnlyNearName field name
 by_position field name None one at e = absurd (cc)
-by_position field name (Some index) one at e = at_index field name index one at (same_Some e)
+by_position field name (Some index) one at e = at_index field name index one at (same_Some _ _ e)
 
 pub near_name_is_only : (field name : List ℕ) → near_in names field ≡ Some name
     → IsOnlyNearName field name
@@ -67,9 +66,9 @@ forms_are_of_row word row order mnemonic = record {
 
 -- ---- the caret under an operand
 
-no_farther : (wrong : Cause) (count : ℕ) → count_by_cause wrong count ≤ count
-no_farther cause.Nothing count = omega arith
-no_farther other count = omega arith
+no_farther : (wrong : Option Cause) (count : ℕ) → count_by_cause wrong count ≤ count
+no_farther None count = omega arith
+no_farther (Some cause) count = omega arith
 
 pub caret_at_stop : (card : Card) (known : Operation) → operation_of card ≡ Some known
     → IsCaretAtStop card known

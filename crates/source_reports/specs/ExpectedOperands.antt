@@ -70,10 +70,10 @@ forms_text forms = form_text (alone_by forms.third) forms.form
 unfoldable pub expected_text : Operation → List ℕ
 expected_text operation.Job = codes "any text"
 expected_text operation.Control = codes "a digit from 1 to 6"
-expected_text operation.Origin = codes "an address, as 500 or AREA&5"
-expected_text operation.Equate = codes "an address, as 500 or AREA&5"
-expected_text operation.MarkedConstant = codes "@text@, digits, &digits, -digits or #n"
-expected_text operation.Constant = codes "@text@, digits, &digits, -digits or #n"
+expected_text operation.Origin = codes "an address, as AREA&5"
+expected_text operation.Equate = codes "an address, as AREA&5"
+expected_text operation.MarkedConstant = codes "@text@, 125, &125, -125 or #12"
+expected_text operation.Constant = codes "@text@, 125, &125, -125 or #12"
 expected_text operation.Area = codes "a number from 1 on"
-expected_text operation.End = codes "nothing or an address, as 500 or START"
+expected_text operation.End = codes "nothing or an address, as START"
 expected_text (operation.Instruction mnemonic) = forms_text mnemonic.forms

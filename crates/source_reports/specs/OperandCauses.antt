@@ -1,5 +1,5 @@
 -- what is wrong where the reading of a card's operand field stops, and how it is told
-use Rattle.std.specs.Prelude.{ℕ, ◌+◌, ◌==◌, nat_lt, nat_le, Bool, ◌&&◌, ◌||◌, if◌then◌else◌, List, drop, codes}
+use Rattle.std.specs.Prelude.{ℕ, ◌+◌, ◌==◌, nat_lt, nat_le, Bool, ◌&&◌, ◌||◌, if◌then◌else◌, List, drop, Option, Some, None, codes}
 use Rattle.bcd.specs.Table.{byte}
 use Rattle.autocoder_statements.specs.Expressions.{digit_run, most_digits}
 use Rattle.autocoder_statements.specs.Names.{name_run, longest_name}
@@ -129,25 +129,24 @@ cause_at wanted.Comma count field = follower count field
 cause_at wanted.LastEnd count field = last_follower count field
 cause_at other count field = wrong_part other count field
 
--- what is wrong where a field ends: nothing, or a part of it is missing
-abbrev pub ended_cause : Wanted → Cause
-ended_cause wanted.End = cause.Nothing
-ended_cause wanted.LastEnd = cause.Nothing
-ended_cause other = cause.Missing
+-- what is wrong where a field ends, if the end is not what is wanted
+abbrev pub ended_cause : Wanted → Option Cause
+ended_cause wanted.End = None
+ended_cause wanted.LastEnd = None
+ended_cause other = Some cause.Missing
 
--- what is wrong with an operand field, by the stop of its reading
-unfoldable pub cause_of : Stop → List ℕ → Cause
+-- what is wrong with an operand field, by the stop of its reading, if it is not right
+unfoldable pub cause_of : Stop → List ℕ → Option Cause
 cause_of stop field = if ends_at field stop.count then ended_cause stop.wanted
-    else cause_at stop.wanted stop.count field
+    else Some (cause_at stop.wanted stop.count field)
 
 -- ---- the words
 
 -- the words for what is wrong
 unfoldable pub cause_text : Cause → List ℕ
-cause_text cause.Nothing = codes ""
 cause_text cause.Missing = codes "; an operand is missing"
 cause_text cause.TooMany = codes "; an operand too many"
-cause_text cause.LateStart = codes "; operands begin in column 21, comments in 23"
+cause_text cause.LateStart = codes "; operands begin in 21, comments in 23"
 cause_text cause.BlankBehindComma = codes "; leave out the blank behind the comma"
 cause_text cause.OneBlank = codes "; put two blanks before a comment"
 cause_text cause.Plus = codes "; plus is &"

@@ -9,7 +9,6 @@ use Rattle.source_reports.specs.ExpectedOperands.{expected_text}
 use Rattle.source_reports.specs.OperandCauses.{cause_of, cause_text}
 use Rattle.source_reports.specs.OperandStops.{stop_of}
 use Rattle.source_reports.specs.declared.operand_causes.Cause.{Cause}
-use Rattle.source_reports.specs.declared.operand_causes.Cause.TheVariants as cause
 
 -- the operation as it stands on a card
 abbrev pub operation_text : Card → List ℕ
@@ -27,13 +26,13 @@ whole_text card operation.Control = codes "; only the first CTL counts, so leave
 whole_text card operation.End = codes "; there is no instruction to start at, so write an address"
 whole_text card other = takes_text card other
 
--- what stands in an operand field, and what the operation takes
-abbrev pub wrong_text : Card → Operation → Cause → List ℕ
-wrong_text card known cause.Nothing = whole_text card known
-wrong_text card known other = cause_text other ++ takes_text card known
+-- what is wrong with an operand field, if anything is, and what the operation takes
+abbrev pub wrong_text : Card → Operation → Option Cause → List ℕ
+wrong_text card known None = whole_text card known
+wrong_text card known (Some wrong) = cause_text wrong ++ takes_text card known
 
--- what is wrong with the operand field of a card that has this operation
-abbrev pub card_cause : Card → Operation → Cause
+-- what is wrong with the operand field of a card that has this operation, if it is not right
+abbrev pub card_cause : Card → Operation → Option Cause
 card_cause card known = cause_of (stop_of known (operand_field card)) (operand_field card)
 
 -- the hint for a card that has this operation, if it has one
@@ -49,9 +48,9 @@ operand_hint card = hint_by card (operation_of card)
 
 -- how many characters come before what is wrong in the operand field of a card; none where it is
 -- the card as a whole
-abbrev pub count_by_cause : Cause → ℕ → ℕ
-count_by_cause cause.Nothing count = 0
-count_by_cause other count = count
+abbrev pub count_by_cause : Option Cause → ℕ → ℕ
+count_by_cause None count = 0
+count_by_cause (Some wrong) count = count
 
 -- the column of what is wrong in the operand field of a card that has this operation, if it has
 -- one; behind the field it is the field's last one

@@ -7,10 +7,14 @@ use Rattle.source_reports.specs.LeftOut.{advice}
 use Rattle.source_reports.specs.OperationNames.{near_operation, shown_name}
 use Rattle.source_reports.specs.SourceColumns.{are_columns_off}
 
+-- the question whether this name is meant
+abbrev pub question_text : List ℕ → List ℕ
+question_text name = codes "; did you mean " ++ shown_name name ++ codes "?"
+
 -- a name that is nearly what stands on a card, if there is one, or else where all names are
 abbrev pub near_hint : Option (List ℕ) → List ℕ
 near_hint None = codes "; docs/AUTOCODER.md lists them"
-near_hint (Some name) = codes "; did you mean " ++ shown_name name ++ codes "?"
+near_hint (Some name) = question_text name
 
 -- what to write for an operation, or else a name that is nearly the same
 abbrev pub known_hint : List ℕ → Option (List ℕ) → List ℕ

@@ -6,9 +6,13 @@ use Rattle.autocoder_statements.specs.Laws.{names}
 
 -- ---- an operation field and a name
 
+-- in how many characters a text differs from these glyphs, as far as both go
+abbrev pub mismatches : List ℕ → List ℕ → ℕ
+mismatches text glyphs = count_by (λ pair. not (glyph_of pair.0 == pair.1)) (zip text glyphs)
+
 -- whether a text has these glyphs, as far as both go
 abbrev pub has_glyphs : List ℕ → List ℕ → Bool
-has_glyphs text glyphs = count_by (λ pair. not (glyph_of pair.0 == pair.1)) (zip text glyphs) == 0
+has_glyphs text glyphs = mismatches text glyphs == 0
 
 -- whether a field has in a column the glyph that a name has in a column, both numbered from 0
 abbrev pub is_same_at : List ℕ → ℕ → List ℕ → ℕ → Bool
@@ -61,6 +65,10 @@ near_in table field = if count_by (is_near field) table == 1
 abbrev pub near_operation : List ℕ → Option (List ℕ)
 near_operation field = near_in names field
 
+-- how many characters a name has before the blanks behind it
+abbrev pub shown_length : List ℕ → ℕ
+shown_length name = unwrap_or (position (λ glyph. glyph == byte (codes " ")) name) 5
+
 -- a name as it is shown: without the blanks behind it
-abbrev pub shown_name : List ℕ → List ℕ
-shown_name name = take (unwrap_or (position (λ glyph. glyph == byte (codes " ")) name) 5) name
+unfoldable pub shown_name : List ℕ → List ℕ
+shown_name name = take (shown_length name) name

@@ -21,14 +21,14 @@ fn push_if_taken(text: &mut Vec<u8>, modifiers: Modifiers, number: u8) -> Result
     let Some(code) = Code::from_number(number) else {
         return Ok(());
     };
-    if is_modifier(modifiers, code) {
-        text.push(code.glyph())?;
+    if !is_modifier(modifiers, code) {
+        return Ok(());
     }
+    text.push(code.glyph())?;
     Ok(())
 }
 
 /// Adds the glyphs of all characters that may be the last of an instruction.
-#[tactic(auto, unfolding(crate::specs::ExpectedOperands::taken_glyphs), using(crate::proofs::GlyphLemmas::one_more))]
 fn push_taken_glyphs(text: &mut Vec<u8>, modifiers: Modifiers) -> Result<(), AllocError>
     ensures { OnOk result (text.new.items ≡ text.old.items ++ taken_glyphs modifiers) }
 {
@@ -143,12 +143,12 @@ pub(crate) fn push_expected(text: &mut Vec<u8>, operation: &Operation) -> Result
     match operation {
         Operation::Job => push_text(text, "any text"),
         Operation::Control => push_text(text, "a digit from 1 to 6"),
-        Operation::Origin => push_text(text, "an address, as 500 or AREA&5"),
-        Operation::Equate => push_text(text, "an address, as 500 or AREA&5"),
-        Operation::MarkedConstant => push_text(text, "@text@, digits, &digits, -digits or #n"),
-        Operation::Constant => push_text(text, "@text@, digits, &digits, -digits or #n"),
+        Operation::Origin => push_text(text, "an address, as AREA&5"),
+        Operation::Equate => push_text(text, "an address, as AREA&5"),
+        Operation::MarkedConstant => push_text(text, "@text@, 125, &125, -125 or #12"),
+        Operation::Constant => push_text(text, "@text@, 125, &125, -125 or #12"),
         Operation::Area => push_text(text, "a number from 1 on"),
-        Operation::End => push_text(text, "nothing or an address, as 500 or START"),
+        Operation::End => push_text(text, "nothing or an address, as START"),
         Operation::Instruction(mnemonic) => push_forms(text, &mnemonic.forms),
     }
 }

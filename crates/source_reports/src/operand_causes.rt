@@ -10,8 +10,6 @@ use bcd::Code;
 /// What is wrong with an operand field.
 #[derive(Clone, Copy)]
 pub(crate) enum Cause {
-    /// Nothing on the card itself.
-    Nothing,
     /// The field ends where an operand is wanted.
     Missing,
     /// There is an operand behind the last one.
@@ -297,26 +295,26 @@ fn cause_at(wanted: Wanted, count: usize, field: &[Code]) -> Cause
     }
 }
 
-/// What is wrong where a field ends.
-fn ended_cause(wanted: Wanted) -> Cause
+/// What is wrong where a field ends, if the end is not what is wanted.
+fn ended_cause(wanted: Wanted) -> Option<Cause>
     ensures { result ≡ ended_cause wanted }
 {
     match wanted {
-        Wanted::End => Cause::Nothing,
-        Wanted::LastEnd => Cause::Nothing,
-        _ => Cause::Missing,
+        Wanted::End => None,
+        Wanted::LastEnd => None,
+        _ => Some(Cause::Missing),
     }
 }
 
-/// What is wrong with an operand field, by the stop of its reading.
+/// What is wrong with an operand field, by the stop of its reading, if it is not right.
 #[tactic(auto, unfolding(crate::specs::OperandCauses::cause_of))]
-pub(crate) fn cause_of(stop: Stop, field: &[Code]) -> Cause
+pub(crate) fn cause_of(stop: Stop, field: &[Code]) -> Option<Cause>
     ensures { result ≡ cause_of stop field.now }
 {
     if ends_at(field, stop.count) {
         return ended_cause(stop.wanted);
     }
-    cause_at(stop.wanted, stop.count, field)
+    Some(cause_at(stop.wanted, stop.count, field))
 }
 
 /// The words for what is wrong.
@@ -325,10 +323,9 @@ pub(crate) fn cause_text(cause: Cause) -> &'static str
     ensures { result.now ≡ cause_text cause }
 {
     match cause {
-        Cause::Nothing => "",
         Cause::Missing => "; an operand is missing",
         Cause::TooMany => "; an operand too many",
-        Cause::LateStart => "; operands begin in column 21, comments in 23",
+        Cause::LateStart => "; operands begin in 21, comments in 23",
         Cause::BlankBehindComma => "; leave out the blank behind the comma",
         Cause::OneBlank => "; put two blanks before a comment",
         Cause::Plus => "; plus is &",

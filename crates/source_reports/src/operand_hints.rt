@@ -55,25 +55,25 @@ fn push_whole(text: &mut Vec<u8>, card: &Card, known: &Operation) -> Result<(), 
     }
 }
 
-/// Adds what stands in an operand field, and what the operation takes.
+/// Adds what is wrong with an operand field, if anything is, and what the operation takes.
 fn push_wrong(
     text: &mut Vec<u8>,
     card: &Card,
     known: &Operation,
-    cause: Cause,
+    cause: Option<Cause>,
 ) -> Result<(), AllocError>
     ensures { OnOk result (text.new.items
         ≡ text.old.items ++ wrong_text card.now known.now cause) }
 {
-    if matches!(cause, Cause::Nothing) {
+    let Some(cause) = cause else {
         return push_whole(text, card, known);
-    }
+    };
     push_text(text, cause_text(cause))?;
     push_takes(text, card, known)
 }
 
-/// What is wrong with the operand field of a card that has this operation.
-fn card_cause(card: &Card, known: &Operation) -> Cause
+/// What is wrong with the operand field of a card that has this operation, if it is not right.
+fn card_cause(card: &Card, known: &Operation) -> Option<Cause>
     ensures { result ≡ card_cause card.now known.now }
 {
     let field = operand_field(card);
@@ -92,12 +92,12 @@ pub(crate) fn push_operand(text: &mut Vec<u8>, card: &Card) -> Result<(), AllocE
 }
 
 /// How many characters come before what is wrong in an operand field.
-fn count_by_cause(cause: Cause, count: usize) -> usize
+fn count_by_cause(cause: Option<Cause>, count: usize) -> usize
     ensures { result ≡ count_by_cause cause count }
 {
     match cause {
-        Cause::Nothing => 0,
-        _ => count,
+        None => 0,
+        Some(_) => count,
     }
 }
 

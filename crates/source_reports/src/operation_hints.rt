@@ -2,18 +2,28 @@
 
 ghost use Rattle.std.specs.Prelude.{◌≡◌, ◌++◌, length, OnOk};
 ghost use Rattle.source_reports.specs.LeftOut.{advice};
-ghost use Rattle.source_reports.specs.OperationHints.{near_hint, known_hint, blank_hint, operation_hint};
+ghost use Rattle.source_reports.specs.OperationHints.{question_text, near_hint, known_hint, blank_hint, operation_hint};
 ghost use Rattle.source_reports.specs.OperationNames.{near_operation};
 
 use crate::field_hints::{is_late_comment, push_comment};
 use crate::left_out::advice;
-use crate::operation_names::{near_operation, push_shown};
+use crate::operation_names::{LONGEST, near_operation, push_shown};
 use crate::pieces::push_text;
 use crate::source_columns::are_columns_off;
 use autocoder_statements::{Class, operation_field};
 use bcd::Code;
 use cards::Card;
 use std::alloc::AllocError;
+
+/// Adds the question whether a name is meant.
+fn push_question(text: &mut Vec<u8>, name: &[u8; LONGEST]) -> Result<(), AllocError>
+    ensures { OnOk result (text.new.items ≡ text.old.items ++ question_text name.now) }
+{
+    push_text(text, "; did you mean ")?;
+    push_shown(text, name)?;
+    push_text(text, "?")?;
+    Ok(())
+}
 
 /// Adds the name that an operation field nearly is, or else where all names are.
 fn push_near(text: &mut Vec<u8>, field: &[Code]) -> Result<(), AllocError>
@@ -24,9 +34,7 @@ fn push_near(text: &mut Vec<u8>, field: &[Code]) -> Result<(), AllocError>
     let Some(name) = near_operation(field) else {
         return push_text(text, "; docs/AUTOCODER.md lists them");
     };
-    push_text(text, "; did you mean ")?;
-    push_shown(text, &name)?;
-    push_text(text, "?")
+    push_question(text, &name)
 }
 
 /// Adds what to write for an operation, or else a name that is nearly the same.

@@ -1,7 +1,8 @@
 //! The names of operations, and the one that is nearly what stands on a card.
 
-ghost use Rattle.std.specs.Prelude.{◌≡◌, ◌<◌, ◌≤◌, ◌++◌, ◌==◌, length, count_by, position, unwrap_or, IfSome, OnOk};
-ghost use Rattle.source_reports.specs.OperationNames.{has_glyphs, is_same_at, first_difference, are_exchanged, is_near_from, is_near, near_in, near_operation, shown_name};
+ghost use Rattle.std.specs.Prelude.{◌≡◌, ◌<◌, ◌≤◌, ◌++◌, ◌==◌, length, count_by, position, codes, IfSome, OnOk};
+ghost use Rattle.bcd.specs.Table.{byte};
+ghost use Rattle.source_reports.specs.OperationNames.{mismatches, has_glyphs, is_same_at, first_difference, are_exchanged, is_near_from, is_near, near_in, near_operation, shown_length, shown_name};
 
 use bcd::Code;
 use std::alloc::AllocError;
@@ -19,30 +20,35 @@ const NAMES: [[u8; LONGEST]; 48] = [
     *b"WP   ", *b"WRP  ", *b"CC   ", *b"SS   ", *b"H    ", *b"SBR  ", *b"SAR  ", *b"NOP  ",
 ];
 
-/// Whether a text has these glyphs, as far as both go.
-pub(crate) fn has_glyphs(text: &[Code], glyphs: &[u8]) -> bool
-    ensures { result ≡ has_glyphs text.now glyphs.now }
+/// In how many characters a text differs from these glyphs, as far as both go.
+fn mismatches(text: &[Code], glyphs: &[u8]) -> usize
+    ensures { result ≡ mismatches text.now glyphs.now }
 {
     text.iter()
         .zip(glyphs.iter())
         .filter(|(code, glyph)| code.glyph() != **glyph)
         .count()
-        == 0
+}
+
+/// Whether a text has these glyphs, as far as both go.
+pub(crate) fn has_glyphs(text: &[Code], glyphs: &[u8]) -> bool
+    ensures { result ≡ has_glyphs text.now glyphs.now }
+{
+    mismatches(text, glyphs) == 0
 }
 
 /// Whether a field has in a column the glyph that a name has in a column.
-fn is_same_at(field: &[Code], column: usize, name: &[u8], other: usize) -> bool
+fn is_same_at(field: &[Code], column: usize, name: &[u8; LONGEST], other: usize) -> bool
     requires column { column < length field.now }
-    requires other { other < length name.now }
+    requires other { other < 5 }
     ensures { result ≡ is_same_at field.now column name.now other }
 {
     field[column].glyph() == name[other]
 }
 
 /// The first column in which an operation field differs from a name.
-fn first_difference(field: &[Code], name: &[u8]) -> Option<usize>
+fn first_difference(field: &[Code], name: &[u8; LONGEST]) -> Option<usize>
     requires field { length field.now ≡ 5 }
-    requires name { length name.now ≡ 5 }
     ensures column { result ≡ first_difference field.now name.now }
     ensures within { IfSome result (λ column. column < 5) }
 {
@@ -50,9 +56,8 @@ fn first_difference(field: &[Code], name: &[u8]) -> Option<usize>
 }
 
 /// Whether a field is a name but for two neighbours that are exchanged, from a column on.
-fn are_exchanged(field: &[Code], name: &[u8], column: usize) -> bool
+fn are_exchanged(field: &[Code], name: &[u8; LONGEST], column: usize) -> bool
     requires field { length field.now ≡ 5 }
-    requires name { length name.now ≡ 5 }
     ensures { result ≡ are_exchanged field.now name.now column }
 {
     if column >= LONGEST - 1 {
@@ -64,9 +69,8 @@ fn are_exchanged(field: &[Code], name: &[u8], column: usize) -> bool
 }
 
 /// Whether behind their first difference, in a column, a field and a name are nearly the same.
-fn is_near_from(field: &[Code], name: &[u8], column: usize) -> bool
+fn is_near_from(field: &[Code], name: &[u8; LONGEST], column: usize) -> bool
     requires field { length field.now ≡ 5 }
-    requires name { length name.now ≡ 5 }
     requires column { column < 5 }
     ensures { result ≡ is_near_from field.now name.now column }
 {
@@ -78,9 +82,8 @@ fn is_near_from(field: &[Code], name: &[u8], column: usize) -> bool
 
 /// Whether an operation field is nearly a name.
 #[tactic(auto, unfolding(crate::specs::OperationNames::is_near))]
-fn is_near(field: &[Code], name: &[u8]) -> bool
+fn is_near(field: &[Code], name: &[u8; LONGEST]) -> bool
     requires field { length field.now ≡ 5 }
-    requires name { length name.now ≡ 5 }
     ensures { result ≡ is_near field.now name.now }
 {
     match first_difference(field, name) {
@@ -94,10 +97,7 @@ fn count_near(table: &[[u8; LONGEST]], field: &[Code]) -> usize
     requires { length field.now ≡ 5 }
     ensures { result ≡ count_by (is_near field.now) table.now }
 {
-    table
-        .iter()
-        .filter(|name| is_near(field, &name[..]))
-        .count()
+    table.iter().filter(|name| is_near(field, name)).count()
 }
 
 /// The index of the first of these names that an operation field nearly is.
@@ -106,7 +106,7 @@ fn near_index(table: &[[u8; LONGEST]], field: &[Code]) -> Option<usize>
     ensures index { result ≡ position (is_near field.now) table.now }
     ensures within { IfSome result (λ index. index < length table.now) }
 {
-    table.iter().position(|name| is_near(field, &name[..]))
+    table.iter().position(|name| is_near(field, name))
 }
 
 /// The one of these names that an operation field nearly is, if there is exactly one.
@@ -132,17 +132,27 @@ pub(crate) fn near_operation(field: &[Code]) -> Option<[u8; LONGEST]>
     near_in(&NAMES, field)
 }
 
-/// How many characters of a name come before the blanks behind it.
+/// How many characters of a name come before its first blank.
+fn first_blank(name: &[u8]) -> Option<usize>
+    ensures index { result ≡ position (λ glyph. glyph == byte (codes " ")) name.now }
+    ensures within { IfSome result (λ index. index < length name.now) }
+{
+    name.iter().position(|glyph| *glyph == b' ')
+}
+
+/// How many characters a name has before the blanks behind it.
 fn shown_length(name: &[u8; LONGEST]) -> usize
-    ensures length { result ≡ unwrap_or (position (λ glyph. glyph == 32) name.now) 5 }
+    ensures length { result ≡ shown_length name.now }
     ensures within { result ≤ 5 }
 {
-    name.iter()
-        .position(|glyph| *glyph == b' ')
-        .unwrap_or(LONGEST)
+    match first_blank(name) {
+        None => LONGEST,
+        Some(index) => index,
+    }
 }
 
 /// Adds a name without the blanks behind it.
+#[tactic(auto, unfolding(crate::specs::OperationNames::shown_name))]
 pub(crate) fn push_shown(text: &mut Vec<u8>, name: &[u8; LONGEST]) -> Result<(), AllocError>
     ensures { OnOk result (text.new.items ≡ text.old.items ++ shown_name name.now) }
 {

@@ -1,6 +1,6 @@
 //! Whether most cards of a source are not in their columns, and what is told of the whole source.
 
-ghost use Rattle.std.specs.Prelude.{◌≡◌, ◌<◌, ◌≤◌, ◌-◌, ◌++◌, nat_lt, OnOk};
+ghost use Rattle.std.specs.Prelude.{◌≡◌, ◌<◌, ◌≤◌, ◌-◌, ◌++◌, nat_lt, count_by, OnOk};
 ghost use Rattle.autocoder_statements.specs.Statements.{is_comment};
 ghost use Rattle.source_reports.specs.SourceColumns.{is_filled, is_early, is_late, begins_early, begins_late, is_off, statements, are_most, are_columns_off, way_out, notice_of};
 
@@ -60,6 +60,27 @@ fn statements(source: &[Card]) -> usize
     source.iter().filter(|card| !is_comment(card)).count()
 }
 
+/// How many cards have their operation in no column, or one off.
+fn count_off(source: &[Card]) -> usize
+    ensures { result ≡ count_by is_off source.now }
+{
+    source.iter().filter(|card| is_off(card)).count()
+}
+
+/// How many cards have an operation that begins too early.
+fn count_early(source: &[Card]) -> usize
+    ensures { result ≡ count_by begins_early source.now }
+{
+    source.iter().filter(|card| begins_early(card)).count()
+}
+
+/// How many cards have an operation that begins too late.
+fn count_late(source: &[Card]) -> usize
+    ensures { result ≡ count_by begins_late source.now }
+{
+    source.iter().filter(|card| begins_late(card)).count()
+}
+
 /// Whether so many of all are more than the others.
 fn are_more(count: usize, all: usize) -> bool
     ensures { result ≡ nat_lt (all - count) count }
@@ -72,24 +93,21 @@ fn are_more(count: usize, all: usize) -> bool
 pub(crate) fn are_columns_off(source: &[Card]) -> bool
     ensures { result ≡ are_columns_off source.now }
 {
-    let off = source.iter().filter(|card| is_off(card)).count();
-    are_more(off, statements(source))
+    are_more(count_off(source), statements(source))
 }
 
 /// Whether most operations begin too early.
 fn are_early(source: &[Card]) -> bool
     ensures { result ≡ are_most begins_early source.now }
 {
-    let early = source.iter().filter(|card| begins_early(card)).count();
-    are_more(early, statements(source))
+    are_more(count_early(source), statements(source))
 }
 
 /// Whether most operations begin too late.
 fn are_late(source: &[Card]) -> bool
     ensures { result ≡ are_most begins_late source.now }
 {
-    let late = source.iter().filter(|card| begins_late(card)).count();
-    are_more(late, statements(source))
+    are_more(count_late(source), statements(source))
 }
 
 /// The way out for a source whose cards are not in their columns.
