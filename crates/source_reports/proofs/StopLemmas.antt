@@ -1,5 +1,5 @@
 -- for `is_modifier` of `operand_stops`: a character that stands alone in a field
-use Rattle.std.proofs.Common.{◌≡◌, ℕ, Bool, true, false, [], ◌∷◌, Option, Some, None, if◌then◌else◌, refl}
+use Rattle.std.proofs.Common.{◌≡◌, ℕ, Bool, true, false, [], ◌∷◌, Some, None, if◌then◌else◌, refl}
 use Rattle.std.specs.Option.{option_map, is_some}
 use Rattle.autocoder_statements.specs.Characters.{is_ended}
 use Rattle.autocoder_statements.specs.Operands.{is_modifier, modifier, operands, with_modifier}

@@ -1,5 +1,5 @@
 -- for the laws of the operations and the operands that a report tells
-use Rattle.std.proofs.Common.{◌≡◌, ℕ, ◌+◌, ◌<◌, ◌≤◌, ◌==◌, Bool, true, false, List, [], length, get_or, Option, Some, None, if◌then◌else◌, refl, sym, ◌∙◌, ap, arith}
+use Rattle.std.proofs.Common.{◌≡◌, ℕ, ◌≤◌, ◌==◌, Bool, true, false, List, [], Option, Some, None, if◌then◌else◌, refl, sym, ◌∙◌, ap, arith}
 use Rattle.std.specs.Option.{option_map}
 use Rattle.std.specs.List.{count_by, position}
 use Rattle.std.proofs.lemmas.Bool.{eqb-true}
@@ -7,7 +7,7 @@ use Rattle.std.proofs.lemmas.List.Quantifiers.{position-Some}
 use Rattle.std.proofs.lemmas.Option.{same_Some}
 use Rattle.cards.specs.declared.decks.Card.{Card}
 use Rattle.autocoder_statements.specs.Laws.{names}
-use Rattle.autocoder_statements.specs.Mnemonics.{orders, mnemonics, entry, or_else, mnemonic_of, operation_named}
+use Rattle.autocoder_statements.specs.Mnemonics.{orders, mnemonics, entry, mnemonic_of, operation_named}
 use Rattle.autocoder_statements.specs.declared.operand_forms.OperandForms.{OperandForms}
 use Rattle.autocoder_statements.specs.Statements.{operand_field, operation_of}
 use Rattle.autocoder_statements.specs.declared.operations.Operation.{Operation}

@@ -1,5 +1,5 @@
 -- how far the operand field of a card can be read, and what the field should have there
-use Rattle.std.specs.Prelude.{ℕ, ◌+◌, ◌-◌, ◌==◌, nat_lt, nat_le, Bool, true, false, not, ◌&&◌, ◌||◌, if◌then◌else◌, List, length, take, drop, slice_index_or, Option, Some, None, option_map, is_some, codes}
+use Rattle.std.specs.Prelude.{ℕ, ◌+◌, ◌-◌, ◌==◌, nat_lt, nat_le, Bool, false, not, ◌&&◌, ◌||◌, if◌then◌else◌, List, length, take, drop, slice_index_or, Option, Some, None, option_map, is_some, codes}
 use Rattle.std.specs.List.{list_all}
 use Rattle.bcd.specs.Table.{glyph_of, byte}
 use Rattle.autocoder_statements.specs.Characters.{is_blank}

@@ -2,7 +2,7 @@
 use Rattle.std.specs.Prelude.{ℕ, ◌≡◌, ◌+◌, ◌<◌, ◌≤◌, true, List, length, Option, Some}
 use Rattle.cards.specs.declared.decks.Card.{Card}
 use Rattle.autocoder_statements.specs.Laws.{names}
-use Rattle.autocoder_statements.specs.Mnemonics.{orders, mnemonics, entry, operation_named}
+use Rattle.autocoder_statements.specs.Mnemonics.{operation_named}
 use Rattle.autocoder_statements.specs.Statements.{operand_field}
 use Rattle.autocoder_statements.specs.declared.operand_forms.OperandForms.{OperandForms}
 use Rattle.autocoder_statements.specs.declared.operations.Operation.{Operation}

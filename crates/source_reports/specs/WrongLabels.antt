@@ -1,5 +1,5 @@
 -- of a label that is wrong: what is wrong with it, and what a label is
-use Rattle.std.specs.Prelude.{ℕ, ◌==◌, nat_lt, Bool, if◌then◌else◌, List, [], ◌++◌, length, Option, Some, None, codes}
+use Rattle.std.specs.Prelude.{ℕ, ◌==◌, nat_lt, if◌then◌else◌, List, [], ◌++◌, length, Option, Some, None, codes}
 use Rattle.cards.specs.declared.decks.Card.{Card}
 use Rattle.autocoder_statements.specs.Names.{name_run, longest_name}
 use Rattle.autocoder_statements.specs.Statements.{word, word_run, label_field, operation_of}

@@ -1,12 +1,12 @@
 //! The laws of the report of a source.
 
-ghost use Rattle.std.specs.Prelude.{◌≡◌, ◌-◌, ◌⊎◌, ◌||◌, true, List, ℕ, Option, Some, None, slice_get, slice_index_or};
+ghost use Rattle.std.specs.Prelude.{◌≡◌, ◌-◌, ◌⊎◌, ◌||◌, true, List, ℕ, Option, Some, None, is_some, slice_get, slice_index_or};
 ghost use Rattle.cards.specs.declared.decks.Card.{Card};
 ghost use Rattle.autocoder_layout.specs.declared.card_faults.CardFault.{CardFault};
 ghost use Rattle.autocoder_layout.specs.declared.faults.SourceFault.TheVariants.{UnknownName};
 ghost use Rattle.autocoder_statements.specs.Statements.{is_broken, label_field, operation_field, operation_of};
 ghost use Rattle.autocoder_statements.specs.declared.operations.Operation.{Operation};
-ghost use Rattle.autocoder_statements.specs.Mnemonics.{orders, mnemonics, entry};
+ghost use Rattle.autocoder_statements.specs.Mnemonics.{orders, mnemonics, entry, operands_in};
 ghost use Rattle.autocoder_statements.specs.declared.names.Name.{Name};
 ghost use Rattle.autocoder_statements.specs.declared.operand_forms.OperandForms.{OperandForms};
 ghost use Rattle.autocoder_layout.specs.Layout.{nothing};
@@ -20,6 +20,8 @@ ghost use Rattle.source_reports.specs.Carets.{IsInField, IsStrayAt, IsUnknownTol
 ghost use Rattle.source_reports.specs.Names.{near_name};
 ghost use Rattle.source_reports.specs.declared.names.Known.{Known};
 ghost use Rattle.source_reports.specs.Places.{broken_column, place_of};
+ghost use Rattle.source_reports.specs.OperandCauses.{cause_of};
+ghost use Rattle.source_reports.specs.OperandStops.{forms_stop};
 ghost use Rattle.source_reports.specs.OperationNames.{near_operation};
 ghost use Rattle.source_reports.specs.Reports.{text_for, Tells};
 ghost use Rattle.source_reports.specs.ToldOperations.{IsOnlyNearName, AreFormsOfRow, IsCaretAtStop};
@@ -94,4 +96,12 @@ pub fn operands_told_are_those_of_the_table()
 pub fn carets_stand_at_what_is_not_read()
     ensures { (card : Card) (known : Operation) → operation_of card ≡ Some known →
         IsCaretAtStop card known }
+{}
+
+/// The law of wrong operands: where an operand field has none of the forms of its mnemonic, the
+/// report tells what is wrong with it.
+#[tactic(auto, using(crate::proofs::FitLaw::told_where_wrong))]
+pub fn wrong_operands_are_told()
+    ensures { (forms : OperandForms) (field : List ℕ) → operands_in forms field ≡ None →
+        is_some (cause_of (forms_stop forms field) field) ≡ true }
 {}

@@ -16,7 +16,8 @@
 //! begins at the caret ([`names_told_are_not_defined`]). A name that is told as nearly the same is
 //! defined, differs in one character, and is the only one ([`near_names_are_the_only_ones`]); so it
 //! is with an operation ([`near_operations_are_the_only_ones`]). What is told as the operands of an
-//! instruction are the forms in the table ([`operands_told_are_those_of_the_table`]).
+//! instruction are the forms in the table ([`operands_told_are_those_of_the_table`]), and where a
+//! field has none of them, what is wrong is told ([`wrong_operands_are_told`]).
 #![tactic(auto)]
 
 mod blocks;
@@ -46,7 +47,7 @@ pub use laws::{
     carets_stand_at_what_is_not_read, carets_stand_behind_a_blank,
     carets_stand_in_the_field_at_fault, names_told_are_not_defined, near_names_are_the_only_ones,
     near_operations_are_the_only_ones, operands_told_are_those_of_the_table,
-    reports_follow_the_assembler,
+    reports_follow_the_assembler, wrong_operands_are_told,
 };
 pub use reports::Report;
 pub use words::words_of;

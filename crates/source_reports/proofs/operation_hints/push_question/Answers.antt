@@ -1,4 +1,3 @@
-use Rattle.std.proofs.Common.{◌++◌}
 use Rattle.std.specs.Prelude.{codes}
 use Rattle.source_reports.specs.OperationNames.{shown_name}
 use Rattle.source_reports.proofs.PieceLemmas.{three_pieces}
