@@ -16,8 +16,8 @@ is_asterisk_first text None = false
 is_asterisk_first text (Some count) = glyph_of (slice_index_or text count 0) == byte (codes "*")
 
 -- whether a card looks like a comment, and is none: in columns 1 to 15 an asterisk stands first
-unfoldable pub is_late_comment : Card → Bool
-is_late_comment card = is_asterisk_first (columns 1 15 card)
+unfoldable pub looks_like_comment : Card → Bool
+looks_like_comment card = is_asterisk_first (columns 1 15 card)
     (position (λ code. not (is_blank code)) (columns 1 15 card))
 
 -- of text behind a blank: where labels and operations begin; nothing if that is told of the whole
@@ -29,5 +29,5 @@ columns_text is_told = if is_told then codes ""
 -- of text behind a blank: that a comment has its asterisk elsewhere, or where labels and operations
 -- begin
 unfoldable pub field_hint : List Card → Card → List ℕ
-field_hint source card = if is_late_comment card then comment_text
+field_hint source card = if looks_like_comment card then comment_text
     else columns_text (are_columns_off source)

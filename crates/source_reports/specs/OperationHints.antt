@@ -2,7 +2,7 @@
 use Rattle.std.specs.Prelude.{ℕ, ◌==◌, Bool, if◌then◌else◌, List, ◌++◌, Option, Some, None, codes}
 use Rattle.cards.specs.declared.decks.Card.{Card}
 use Rattle.autocoder_statements.specs.Statements.{word_run, operation_field}
-use Rattle.source_reports.specs.FieldHints.{comment_text, is_late_comment}
+use Rattle.source_reports.specs.FieldHints.{comment_text, looks_like_comment}
 use Rattle.source_reports.specs.LeftOut.{advice}
 use Rattle.source_reports.specs.OperationNames.{near_operation, shown_name}
 use Rattle.source_reports.specs.SourceColumns.{are_columns_off}
@@ -29,6 +29,6 @@ blank_hint is_told = if is_told then codes ""
 -- of an operation that is none: that the card looks like a comment, or where operations stand, or
 -- what to write for it, or the name that it nearly is, or where all names are
 unfoldable pub operation_hint : List Card → Card → List ℕ
-operation_hint source card = if is_late_comment card then comment_text
+operation_hint source card = if looks_like_comment card then comment_text
     else (if word_run (operation_field card) == 0 then blank_hint (are_columns_off source)
     else known_hint (operation_field card) (advice (operation_field card)))

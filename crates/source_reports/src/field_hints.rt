@@ -2,7 +2,7 @@
 
 ghost use Rattle.std.specs.Prelude.{◌≡◌, ◌++◌, not, position, OnOk};
 ghost use Rattle.autocoder_statements.specs.Characters.{is_blank};
-ghost use Rattle.source_reports.specs.FieldHints.{comment_text, is_asterisk_first, is_late_comment, columns_text, field_hint};
+ghost use Rattle.source_reports.specs.FieldHints.{comment_text, is_asterisk_first, looks_like_comment, columns_text, field_hint};
 
 use crate::pieces::push_text;
 use crate::places::first_filled;
@@ -23,9 +23,9 @@ fn is_asterisk_first(text: &[Code]) -> bool
 }
 
 /// Whether a card looks like a comment, and is none: an asterisk stands first in columns 1 to 15.
-#[tactic(auto, unfolding(crate::specs::FieldHints::is_late_comment))]
-pub(crate) fn is_late_comment(card: &Card) -> bool
-    ensures { result ≡ is_late_comment card.now }
+#[tactic(auto, unfolding(crate::specs::FieldHints::looks_like_comment))]
+pub(crate) fn looks_like_comment(card: &Card) -> bool
+    ensures { result ≡ looks_like_comment card.now }
 {
     let columns = &card.0[..];
     is_asterisk_first(&columns[..15])
@@ -55,7 +55,7 @@ pub(crate) fn push_field(text: &mut Vec<u8>, source: &[Card], card: &Card) -> Re
     ensures { OnOk result (text.new.items
         ≡ text.old.items ++ field_hint source.now card.now) }
 {
-    if is_late_comment(card) {
+    if looks_like_comment(card) {
         return push_comment(text);
     }
     push_text(text, columns_text(are_columns_off(source)))

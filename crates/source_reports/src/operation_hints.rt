@@ -5,7 +5,7 @@ ghost use Rattle.source_reports.specs.LeftOut.{advice};
 ghost use Rattle.source_reports.specs.OperationHints.{question_text, near_hint, known_hint, blank_hint, operation_hint};
 ghost use Rattle.source_reports.specs.OperationNames.{near_operation};
 
-use crate::field_hints::{is_late_comment, push_comment};
+use crate::field_hints::{looks_like_comment, push_comment};
 use crate::left_out::advice;
 use crate::operation_names::{LONGEST, near_operation, push_shown};
 use crate::pieces::push_text;
@@ -70,7 +70,7 @@ pub(crate) fn push_operation_hint(
     ensures { OnOk result (text.new.items
         ≡ text.old.items ++ operation_hint source.now card.now) }
 {
-    if is_late_comment(card) {
+    if looks_like_comment(card) {
         return push_comment(text);
     }
     let field = operation_field(card);
