@@ -1,4 +1,5 @@
--- operations of the 1401's own Autocoder that are not in the table, and what to write for them
+-- operations that are not in the table but have another name in Autocoder, are spelled out as a word,
+-- or are left out, and what to write for them
 use Rattle.std.specs.Prelude.{ℕ, Bool, if◌then◌else◌, List, [], ◌∷◌, Option, Some, None, codes}
 use Rattle.std.specs.List.{list_any}
 use Rattle.source_reports.specs.OperationNames.{has_glyphs}
@@ -55,11 +56,23 @@ left_out field =
     then Some (codes "; record areas are left out: use DS")
     else kind_left_out field))
 
--- what to write for an operation that has another name here, or is left out
+-- what to write for an operation that is spelled out as a word, or is left out
+abbrev pub spelled_out : List ℕ → Option (List ℕ)
+spelled_out field =
+    if has_glyphs field (codes "HALT ") then Some (codes "; here it is H")
+    else (if has_glyphs field (codes "ADD  ") then Some (codes "; here it is A")
+    else (if has_glyphs field (codes "SUB  ") then Some (codes "; here it is S")
+    else (if has_glyphs field (codes "MOVE ") then Some (codes "; here it is MCW")
+    else (if has_glyphs field (codes "READ ") then Some (codes "; here it is R")
+    else (if has_glyphs field (codes "PRINT") then Some (codes "; here it is W")
+    else (if has_glyphs field (codes "PUNCH") then Some (codes "; here it is P")
+    else left_out field))))))
+
+-- what to write for an operation that has another name here, is spelled out, or is left out
 abbrev pub advice : List ℕ → Option (List ℕ)
 advice field =
     if has_glyphs field (codes "MLC  ") then Some (codes "; here it is MCW")
     else (if has_glyphs field (codes "MLCWA") then Some (codes "; here it is LCA")
     else (if has_glyphs field (codes "MLNS ") then Some (codes "; here it is MN")
     else (if has_glyphs field (codes "MLZS ") then Some (codes "; here it is MZ")
-    else left_out field)))
+    else spelled_out field)))

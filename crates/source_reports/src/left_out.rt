@@ -1,7 +1,8 @@
-//! Operations of the 1401's own Autocoder that are not in the table, and what to write for them.
+//! Operations that are not in the table but have another name in Autocoder, are spelled out as a
+//! word, or are left out, and what to write for them.
 
 ghost use Rattle.std.specs.Prelude.{◌≡◌, option_map};
-ghost use Rattle.source_reports.specs.LeftOut.{is_among, multiply, divide, tapes, disks, parts, feeds, kind_left_out, left_out, advice};
+ghost use Rattle.source_reports.specs.LeftOut.{is_among, multiply, divide, tapes, disks, parts, feeds, kind_left_out, left_out, spelled_out, advice};
 
 use crate::operation_names::{LONGEST, has_glyphs};
 use bcd::Code;
@@ -77,7 +78,35 @@ fn left_out(field: &[Code]) -> Option<&'static str>
     kind_left_out(field)
 }
 
-/// What to write for an operation that has another name here, or is left out.
+/// What to write for an operation that is spelled out as a word, or is left out.
+fn spelled_out(field: &[Code]) -> Option<&'static str>
+    ensures { option_map (λ text. text.now) result ≡ spelled_out field.now }
+{
+    if has_glyphs(field, b"HALT ") {
+        return Some("; here it is H");
+    }
+    if has_glyphs(field, b"ADD  ") {
+        return Some("; here it is A");
+    }
+    if has_glyphs(field, b"SUB  ") {
+        return Some("; here it is S");
+    }
+    if has_glyphs(field, b"MOVE ") {
+        return Some("; here it is MCW");
+    }
+    if has_glyphs(field, b"READ ") {
+        return Some("; here it is R");
+    }
+    if has_glyphs(field, b"PRINT") {
+        return Some("; here it is W");
+    }
+    if has_glyphs(field, b"PUNCH") {
+        return Some("; here it is P");
+    }
+    left_out(field)
+}
+
+/// What to write for an operation that has another name here, is spelled out, or is left out.
 pub(crate) fn advice(field: &[Code]) -> Option<&'static str>
     ensures { option_map (λ text. text.now) result ≡ advice field.now }
 {
@@ -93,5 +122,5 @@ pub(crate) fn advice(field: &[Code]) -> Option<&'static str>
     if has_glyphs(field, b"MLZS ") {
         return Some("; here it is MZ");
     }
-    left_out(field)
+    spelled_out(field)
 }
