@@ -77,7 +77,7 @@ wrong_literal glyph next = if is_sign glyph then cause.Sign
 
 -- a text that begins with @, & or -, and with no operand of this kind
 abbrev pub literal_cause : OperandKind → List ℕ → Cause
-literal_cause Branch text = cause.LiteralBranch
+literal_cause Branch text = cause.Literal
 literal_cause Field text = wrong_literal (glyph_at text 0) (glyph_at text 1)
 
 -- a text that begins with no letter or digit, and with no operand of this kind
@@ -160,7 +160,7 @@ cause_text cause.IndexAlone = codes "; X1, X2 and X3 stand behind & alone"
 cause_text cause.LongNumber = codes "; a number has at most five digits"
 cause_text cause.EmptyText = codes "; nothing stands between the two @"
 cause_text cause.OpenText = codes "; the closing @ is missing"
-cause_text cause.LiteralBranch = codes "; a literal is no place to branch to"
+cause_text cause.Literal = codes "; a literal may not stand here"
 cause_text cause.Asterisk = codes "; * is no address: name a label"
 cause_text cause.NoOperand = codes "; no operand begins so"
 cause_text cause.NoQuotes = codes "; put a text between two @"

@@ -42,8 +42,8 @@ pub(crate) enum Cause {
     EmptyText,
     /// There is an `@` without another one.
     OpenText,
-    /// There is a literal where an address to branch to is wanted.
-    LiteralBranch,
+    /// There is a literal where only an address may stand.
+    Literal,
     /// There is a `*` in place of an address.
     Asterisk,
     /// There is a character with which no operand begins.
@@ -184,7 +184,7 @@ fn literal_cause(kind: OperandKind, text: &[Code]) -> Cause
     ensures { result ≡ literal_cause kind text.now }
 {
     match kind {
-        OperandKind::Branch => Cause::LiteralBranch,
+        OperandKind::Branch => Cause::Literal,
         OperandKind::Field => wrong_literal(glyph_at(text, 0), glyph_at(text, 1)),
     }
 }
@@ -339,7 +339,7 @@ pub(crate) fn cause_text(cause: Cause) -> &'static str
         Cause::LongNumber => "; a number has at most five digits",
         Cause::EmptyText => "; nothing stands between the two @",
         Cause::OpenText => "; the closing @ is missing",
-        Cause::LiteralBranch => "; a literal is no place to branch to",
+        Cause::Literal => "; a literal may not stand here",
         Cause::Asterisk => "; * is no address: name a label",
         Cause::NoOperand => "; no operand begins so",
         Cause::NoQuotes => "; put a text between two @",
