@@ -6,9 +6,10 @@ use Rattle.std.proofs.lemmas.List.Quantifiers.{position-Some}
 use Rattle.cards.specs.declared.decks.Card.{Card}
 use Rattle.autocoder_statements.specs.Characters.{is_blank}
 use Rattle.autocoder_statements.specs.Operands.{operand}
-use Rattle.autocoder_statements.specs.Statements.{word_run, label_field, operation_field, operand_field}
+use Rattle.autocoder_statements.specs.Statements.{word_run, label_field, operation_field, operand_field, operation_of}
 use Rattle.autocoder_statements.specs.declared.operand_kinds.OperandKind.{OperandKind}
 use Rattle.autocoder_statements.specs.declared.operands.Operand.{Operand}
+use Rattle.autocoder_statements.specs.declared.operations.Operation.{Operation}
 use Rattle.autocoder_statements.specs.declared.faults.StatementFault.TheVariants as statement_fault
 use Rattle.autocoder_statements.specs.declared.reading.Statement.TheVariants as statement
 use Rattle.autocoder_layout.specs.Source.{Line, line_on}
@@ -17,6 +18,7 @@ use Rattle.autocoder_layout.specs.declared.faults.SourceFault.{SourceFault}
 use Rattle.autocoder_layout.specs.declared.faults.SourceFault.TheVariants as fault
 use Rattle.autocoder_statements.proofs.Found.{mapped}
 use Rattle.source_reports.specs.Carets.{IsInField}
+use Rattle.source_reports.specs.OperandHints.{column_by, wrong_column}
 use Rattle.source_reports.specs.Places.{stray, column_from, broken_column, length_in, column_of_second, second_column, address_column, place_column, unknown_column, outside_column, place_of}
 use Rattle.source_reports.proofs.OperandLemmas.{AreRead, no_text}
 use Rattle.source_reports.proofs.CardLemmas.{by_line}
@@ -57,6 +59,17 @@ broken_within card = by_label (stray (label_field card)) refl
     by_label (Some index) is =
         let below = stray_within (label_field card) index is in
         (omega arith, omega (arith, below, length_label card))
+
+-- ---- 42
+
+wrong_within : (card : Card) → (21 ≤ wrong_column card) × (wrong_column card ≤ 72)
+unfolding wrong_column
+wrong_within card = by_operation (operation_of card)
+  where
+    by_operation : (known : Option Operation)
+        → (21 ≤ column_by card known) × (column_by card known ≤ 72)
+    by_operation None = (omega arith, omega arith)
+    by_operation (Some known) = (omega arith, omega arith)
 
 -- ---- the second operand
 
@@ -134,7 +147,7 @@ caret_within layout has_size card (fault.Statement statement_fault.BrokenField) 
 caret_within layout has_size card (fault.Statement statement_fault.UnknownOperation) column is =
     at_column (IsInField (fault.Statement statement_fault.UnknownOperation)) 16 column is (omega arith, omega arith)
 caret_within layout has_size card (fault.Statement statement_fault.Operand) column is =
-    at_column (IsInField (fault.Statement statement_fault.Operand)) 21 column is (omega arith, omega arith)
+    at_column (IsInField (fault.Statement statement_fault.Operand)) (wrong_column card) column is (wrong_within card)
 caret_within layout has_size card (fault.Statement statement_fault.Label) column is =
     at_column (IsInField (fault.Statement statement_fault.Label)) 6 column is (omega arith, omega arith)
 caret_within layout has_size card fault.TakenLabel column is =

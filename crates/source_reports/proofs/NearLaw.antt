@@ -31,7 +31,7 @@ two_counted {X} p xs i j d order below one other =
     counted x = cond (p x) 1 0
 
 -- the only place that passes is the first one
-only_one : {X : Type 0} (p : X → Bool) (xs : List X) (first k : ℕ) (d : X) → count_by p xs ≡ 1
+pub only_one : {X : Type 0} (p : X → Bool) (xs : List X) (first k : ℕ) (d : X) → count_by p xs ≡ 1
     → position p xs ≡ Some first → k < length xs → p (get_or xs k d) ≡ true → k ≡ first
 only_one p xs first k d one at below pass =
     let known = position-Some p xs first d at in

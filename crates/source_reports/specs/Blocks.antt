@@ -53,7 +53,7 @@ line_at layout index = slice_index_or layout.source.lines index silent
 -- the block of a fault of the card of this number, from 0
 abbrev pub block_at : Layout → List Card → CardFault → ℕ → List ℕ
 block_at layout source f index =
-    (told_of f ++ hint_of layout index (line_at layout index) f.fault ++ line_feed ∷ [])
+    (told_of f ++ hint_of layout source index (line_at layout index) f.fault ++ line_feed ∷ [])
     ++ shown_on layout (line_at layout index) f.fault (slice_get source index)
 
 -- the block of a fault: what it is, its card, and a caret under its place

@@ -17,6 +17,7 @@ use Rattle.autocoder_layout.specs.Layout.{Layout}
 use Rattle.autocoder_layout.specs.Judging.{expressions_of, has_unknown_name, has_value_outside}
 use Rattle.autocoder_layout.specs.declared.faults.SourceFault.{SourceFault}
 use Rattle.autocoder_layout.specs.declared.faults.SourceFault.TheVariants.{NoMemory, Statement, TakenLabel, UnknownName, Outside, Reserved, Filled, NoEnd}
+use Rattle.source_reports.specs.OperandHints.{wrong_column}
 
 -- the first column of the label field
 abbrev pub label_column : ℕ
@@ -107,7 +108,7 @@ unfoldable pub place_of : Layout → Card → Line → SourceFault → Option �
 place_of layout card line NoMemory = None
 place_of layout card line (Statement BrokenField) = Some (broken_column card)
 place_of layout card line (Statement UnknownOperation) = Some operation_column
-place_of layout card line (Statement Operand) = Some operand_column
+place_of layout card line (Statement Operand) = Some (wrong_column card)
 place_of layout card line (Statement Label) = Some label_column
 place_of layout card line TakenLabel = Some label_column
 place_of layout card line UnknownName = Some (unknown_column layout card line)

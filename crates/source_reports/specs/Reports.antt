@@ -11,6 +11,7 @@ use Rattle.autocoder.specs.declared.faults.Faults.TheVariants.{Source, NoMemory}
 use Rattle.autocoder_listings.specs.Listing.{listing_in}
 use Rattle.autocoder_listings.specs.declared.widths.Width.{Width}
 use Rattle.source_reports.specs.Blocks.{block, sum_line}
+use Rattle.source_reports.specs.SourceColumns.{notice_of}
 
 -- the faults of a source, in the order of its cards: those for which it has no program
 abbrev pub faults_for : List Card → List CardFault
@@ -20,9 +21,11 @@ faults_for source = faults_of (has_end source) (layout_for source)
 abbrev pub blocks_of : List Card → List CardFault → List ℕ
 blocks_of source faults = flat_map (block (laid_for source) source) faults
 
--- the text of these faults of a source: a block for each, and the line of their sum
+-- the text of these faults of a source: what is told of the source as a whole, a block for each
+-- fault, and the line of their sum
 unfoldable pub text_of_faults : List Card → List CardFault → List ℕ
-text_of_faults source faults = blocks_of source faults ++ sum_line faults (length source)
+text_of_faults source faults =
+    notice_of source ++ blocks_of source faults ++ sum_line faults (length source)
 
 -- the text for a source with these faults: of a source without a fault its listing with code in a
 -- width

@@ -1,10 +1,10 @@
 //! The block of a fault, and the line of their sum.
 
-ghost use Rattle.std.specs.Prelude.{◌≡◌, ◌++◌, slice_get, slice_index_or, option_copied, OnOk};
+ghost use Rattle.std.specs.Prelude.{◌≡◌, ◌++◌, slice_index_or, option_copied, OnOk};
 ghost use Rattle.autocoder_layout.specs.Source.{AreInRange, IsInRange, silent};
 ghost use Rattle.source_reports.specs.Blocks.{told_of, card_shown, caret_line, shown_on, block, is_fault_of_card, cards_at_fault, plural, counted, sum_line};
 
-use crate::hints::push_hint;
+use crate::hints::{card_at, push_hint};
 use crate::pieces::push_text;
 use crate::places::place_of;
 use crate::words::words_of;
@@ -65,13 +65,6 @@ fn line_at(lines: &[Line], index: usize) -> Line
     }
 }
 
-/// The card of this index, if there is one.
-fn card_at(source: &[Card], index: usize) -> Option<&Card>
-    ensures { option_copied result ≡ slice_get source.now index }
-{
-    source.get(index)
-}
-
 /// Adds the card of a fault with its caret, if there is a card.
 #[tactic(auto, unfolding(crate::specs::Blocks::picture))]
 fn push_shown(
@@ -110,7 +103,7 @@ pub(crate) fn push_block(
     let index = (fault.card as usize).saturating_sub(1);
     let line = line_at(layout.source().lines(), index);
     push_told(alloc, text, fault)?;
-    push_hint(alloc, text, layout, index, &line, fault.fault)?;
+    push_hint(alloc, text, layout, source, index, &line, fault.fault)?;
     text.push(LINE_FEED)?;
     push_shown(
         alloc,

@@ -1,11 +1,14 @@
 //! The laws of the report of a source.
 
-ghost use Rattle.std.specs.Prelude.{◌≡◌, ◌-◌, ◌⊎◌, ◌||◌, true, List, ℕ, Some, slice_get, slice_index_or};
+ghost use Rattle.std.specs.Prelude.{◌≡◌, ◌-◌, ◌⊎◌, ◌||◌, true, List, ℕ, Option, Some, None, is_some, slice_get, slice_index_or};
 ghost use Rattle.cards.specs.declared.decks.Card.{Card};
 ghost use Rattle.autocoder_layout.specs.declared.card_faults.CardFault.{CardFault};
 ghost use Rattle.autocoder_layout.specs.declared.faults.SourceFault.TheVariants.{UnknownName};
-ghost use Rattle.autocoder_statements.specs.Statements.{is_broken, label_field, operation_field};
+ghost use Rattle.autocoder_statements.specs.Statements.{is_broken, label_field, operation_field, operation_of};
+ghost use Rattle.autocoder_statements.specs.declared.operations.Operation.{Operation};
+ghost use Rattle.autocoder_statements.specs.Mnemonics.{orders, mnemonics, entry, operands_in};
 ghost use Rattle.autocoder_statements.specs.declared.names.Name.{Name};
+ghost use Rattle.autocoder_statements.specs.declared.operand_forms.OperandForms.{OperandForms};
 ghost use Rattle.autocoder_layout.specs.Layout.{nothing};
 ghost use Rattle.autocoder_layout.specs.declared.slots.Slot.{Slot};
 ghost use Rattle.autocoder.specs.Programs.{IsFaultless, AreFaults, laid_for, layout_for};
@@ -17,7 +20,11 @@ ghost use Rattle.source_reports.specs.Carets.{IsInField, IsStrayAt, IsUnknownTol
 ghost use Rattle.source_reports.specs.Names.{near_name};
 ghost use Rattle.source_reports.specs.declared.names.Known.{Known};
 ghost use Rattle.source_reports.specs.Places.{broken_column, place_of};
+ghost use Rattle.source_reports.specs.OperandCauses.{cause_of};
+ghost use Rattle.source_reports.specs.OperandStops.{forms_stop};
+ghost use Rattle.source_reports.specs.OperationNames.{near_operation};
 ghost use Rattle.source_reports.specs.Reports.{text_for, Tells};
+ghost use Rattle.source_reports.specs.ToldOperations.{IsOnlyNearName, AreFormsOfRow, IsCaretAtStop};
 
 /// The law of reports: the report of a source without faults is its listing with code, and that of
 /// a source for which the assembler returns faults tells these, each in a block, in their order,
@@ -65,4 +72,36 @@ pub fn carets_stand_behind_a_blank()
 pub fn near_names_are_the_only_ones()
     ensures { (wanted : Name) (slots : List Slot) (known : Known) →
         near_name wanted slots ≡ Some known → IsOnlyNear wanted slots known }
+{}
+
+/// The law of operations that are nearly the same: such a name is one of the table of operations,
+/// what stands on the card nearly is it, and no other name of the table is one.
+#[tactic(auto, using(crate::proofs::ToldLaw::near_name_is_only))]
+pub fn near_operations_are_the_only_ones()
+    ensures { (field name : List ℕ) → near_operation field ≡ Some name →
+        IsOnlyNearName field name }
+{}
+
+/// The law of operands that are told: what a report tells as the operands of an instruction are the
+/// forms of its row in the table of mnemonics.
+#[tactic(auto, using(crate::proofs::ToldLaw::forms_are_of_row))]
+pub fn operands_told_are_those_of_the_table()
+    ensures { (word : List ℕ) (row : ℕ × Option ℕ × OperandForms) → entry orders word ≡ None →
+        entry mnemonics word ≡ Some row → AreFormsOfRow word row }
+{}
+
+/// The law of carets under operands: such a caret stands at or before the first character behind
+/// what can be read of the operand field by the card's operation.
+#[tactic(auto, using(crate::proofs::ToldLaw::caret_at_stop))]
+pub fn carets_stand_at_what_is_not_read()
+    ensures { (card : Card) (known : Operation) → operation_of card ≡ Some known →
+        IsCaretAtStop card known }
+{}
+
+/// The law of wrong operands: where an operand field has none of the forms of its mnemonic, the
+/// report tells what is wrong with it.
+#[tactic(auto, using(crate::proofs::FitLaw::told_where_wrong))]
+pub fn wrong_operands_are_told()
+    ensures { (forms : OperandForms) (field : List ℕ) → operands_in forms field ≡ None →
+        is_some (cause_of (forms_stop forms field) field) ≡ true }
 {}

@@ -7,6 +7,7 @@ ghost use Rattle.autocoder_statements.specs.Statements.{operand_field};
 ghost use Rattle.autocoder_layout.specs.Source.{IsInRange};
 ghost use Rattle.source_reports.specs.Places.{stray, broken_column, kind_of, length_in, column_of_second, second_column, address_column, unknown_column, place_column, outside_column, place_of};
 
+use crate::operand_hints::wrong_column;
 use autocoder_layout::{Layout, Line, SourceFault, expressions_of};
 use autocoder_statements::{
     Class, Operand, OperandKind, Statement, StatementFault, is_blank, label_field, operand_field,
@@ -25,7 +26,7 @@ const OPERATION: usize = 16;
 const OPERAND: usize = 21;
 
 /// The index of the first character that is no blank.
-fn first_filled(text: &[Code]) -> Option<usize>
+pub(crate) fn first_filled(text: &[Code]) -> Option<usize>
     ensures index { result ≡ position (λ code. not (is_blank code)) text.now }
     ensures within { IfSome result (λ index. index < length text.now) }
 {
@@ -167,7 +168,7 @@ pub(crate) fn place_of(
         SourceFault::NoMemory => None,
         SourceFault::Statement(StatementFault::BrokenField) => Some(broken_column(card)),
         SourceFault::Statement(StatementFault::UnknownOperation) => Some(OPERATION),
-        SourceFault::Statement(StatementFault::Operand) => Some(OPERAND),
+        SourceFault::Statement(StatementFault::Operand) => Some(wrong_column(card)),
         SourceFault::Statement(StatementFault::Label) => Some(LABEL),
         SourceFault::TakenLabel => Some(LABEL),
         SourceFault::UnknownName => Some(unknown_column(layout, card, line)),

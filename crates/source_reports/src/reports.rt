@@ -7,6 +7,7 @@ ghost use Rattle.source_reports.specs.Blocks.{block};
 ghost use Rattle.source_reports.specs.Reports.{faults_for, text_of_faults, text_for};
 
 use crate::blocks::{push_block, push_sum};
+use crate::source_columns::push_notice;
 use autocoder::{Faults, Faulty, assemble};
 use autocoder_layout::{CardFault, Layout, source_of};
 use autocoder_listings::{Width, listing_in};
@@ -39,7 +40,8 @@ fn push_blocks(
     Ok(())
 }
 
-/// The text of the faults of a deck's source: a block for each, and the line of their sum.
+/// The text of the faults of a deck's source: what is told of the source as a whole, a block for
+/// each fault, and the line of their sum.
 #[tactic(auto, unfolding(crate::specs::Reports::text_of_faults))]
 fn text_of_faults(alloc: Global, deck: &Deck, faulty: &Faulty) -> Result<Vec<u8>, AllocError>
     requires { IsFaulty (source_of deck.now) faulty.now }
@@ -48,6 +50,7 @@ fn text_of_faults(alloc: Global, deck: &Deck, faulty: &Faulty) -> Result<Vec<u8>
 {
     let source = source_of(deck.cards());
     let mut text = Vec::new(alloc);
+    push_notice(&mut text, source)?;
     push_blocks(alloc, &mut text, &faulty.layout, source, &faulty.faults)?;
     push_sum(&mut text, &faulty.faults, source.len())?;
     Ok(text)

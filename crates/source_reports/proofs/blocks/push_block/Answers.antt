@@ -11,6 +11,7 @@ pub returns : goal.returns
 unfolding block
 returns c =
     let layout = c.args.layout.now in
+    let source = c.args.source.now in
     let fault = c.args.fault.fault in
     let index = c.args.fault.card - 1 in
     let index_is = c.saturating_sub-index.ensures in
@@ -19,14 +20,14 @@ returns c =
     ∙ ap (λ lines. get_or lines c.saturating_sub-index.result silent) (c.lines.ensures.lines ∙ ap (λ (s : Source). s.lines) c.source.ensures)
     ∙ ap (λ i. line_at layout i) index_is in
     four_pieces c.args.text.now.items (told_of c.args.fault)
-    (hint_of layout index (line_at layout index) fault)
+    (hint_of layout source index (line_at layout index) fault)
     (line_feed ∷ [])
     (shown_on layout (line_at layout index) fault (slice_get c.args.source.now index))
     c.push_told.new.text.items c.push_hint.new.text.items c.push.new.self.items c.push_shown.new.text.items
     c.in_ok-push_told.ensures
     (c.in_ok-push_hint.ensures
-    ∙ ap (λ i. c.push_told.new.text.items ++ hint_of layout i c.line_at-line.result fault) index_is
-    ∙ ap (λ l. c.push_told.new.text.items ++ hint_of layout index l fault) line_is)
+    ∙ ap (λ i. c.push_told.new.text.items ++ hint_of layout source i c.line_at-line.result fault) index_is
+    ∙ ap (λ l. c.push_told.new.text.items ++ hint_of layout source index l fault) line_is)
     c.in_ok-push.ensures.items
     (c.in_ok-push_shown.ensures
     ∙ ap (λ l. c.push.new.self.items ++ shown_on layout l fault (option_copied c.card_at.result)) line_is
