@@ -215,7 +215,20 @@ class Base:
         if at < HEAD:
             return either if log[0] != self.log.data[0] else (
                 "nothing" if packed(sum_of(log[:FRAME])) == log[FRAME:HEAD] else "told", None)
-        return either if log[first + GATE] != self.log.data[first + GATE] else ("told", None)
+        if log[first + GATE] != self.log.data[first + GATE]:
+            return either
+        # The last commit may never have been whole.
+        return ("told", None) if is_followed(log, first, self.log.step) else either
+
+
+def is_followed(log, at, step):
+    """Whether the first commit that ends behind a place is followed by a frame."""
+    salt = log[16:24]
+    while at + 2 * step <= len(log):
+        if log[at + 8:at + 16] == salt and log[at + 4:at + 8] != bytes(4):
+            return log[at + step + 8:at + step + 16] == salt
+        at += step
+    return False
 
 
 class Lot:

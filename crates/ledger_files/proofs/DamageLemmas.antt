@@ -10,7 +10,7 @@ use Rattle.sqlite_wal.specs.declared.error.Error.TheVariants.{Io, OutOfMemory, C
 use Rattle.sqlite_wal.proofs.RecoveryLemmas.{replays_once}
 use Rattle.sqlite_wal.proofs.FormatLemmas.{be32-part}
 use Rattle.sqlite_wal.proofs.PartLemmas.{slice_index-part}
-use Rattle.ledger_files.specs.Damage.{HasGateOpen, HasHeaderBegun, IsDamaged, IsDamagedAs, IsFull, IsGateOpenAs}
+use Rattle.ledger_files.specs.Damage.{WasKept, HasHeaderBegun, IsDamaged, IsDamagedAs, IsFull, IsKeptAs}
 use Rattle.ledger_files.specs.declared.damage.Damage.{Damage}
 use Rattle.ledger_files.specs.declared.damage.Damage.TheVariants as of
 
@@ -29,22 +29,22 @@ module _ (log : List ℕ) (begun : HasHeaderBegun log) (signed : IsSigned (heade
   not_taken none (inr commit) = none commit.0 commit.1.3
 
   all_of : (frames : ℕ) (found : Option Damage) → IsPageSize (be32 log 8) → Replays (be32 log 8) log frames
-      → MatchOption found (¬ HasGateOpen log frames) (IsGateOpenAs log frames) → MatchOption found (¬ IsDamaged log) (IsDamagedAs log)
+      → MatchOption found (¬ WasKept log frames) (IsKeptAs log frames) → MatchOption found (¬ IsDamaged log) (IsDamagedAs log)
   all_of frames None size taken shut = λ is. elim is [
     | inl header_is ↦ absurd (header_is.1 signed)
-    | inr commit ↦ shut (subst (HasGateOpen log) (replays_once _ _ _ _ commit.1.3 taken) commit.1.4)
+    | inr commit ↦ shut (subst (WasKept log) (replays_once _ _ _ _ commit.1.3 taken) commit.1.4)
   ]
   all_of frames (Some of.Header) size taken gate = absurd gate
   all_of frames (Some (of.Commit sound all)) size taken gate =
-      ((begun, signed, size, subst (Replays (be32 log 8) log) (sym gate.1) taken, subst (HasGateOpen log) (sym gate.1) gate.0), gate.2)
+      ((begun, signed, size, subst (Replays (be32 log 8) log) (sym gate.1) taken, subst (WasKept log) (sym gate.1) gate.0), gate.2)
 
   -- recovery takes so many frames, and the gate behind them was looked at
   pub all_told : (now : List ℕ) (sound frames : ℕ) (found : Option Damage) → now ≡ log → sound ≡ frames → IsPageSize (be32 log 8)
-      → Replays (be32 log 8) log frames → MatchOption found (¬ HasGateOpen now sound) (IsGateOpenAs now sound)
+      → Replays (be32 log 8) log frames → MatchOption found (¬ WasKept now sound) (IsKeptAs now sound)
       → MatchOption found (¬ IsDamaged log) (IsDamagedAs log)
   all_told now sound frames found is_log is_sound size taken gate =
-      all_of frames found size taken (subst (λ n. MatchOption found (¬ HasGateOpen log n) (IsGateOpenAs log n)) is_sound
-      (subst (λ l. MatchOption found (¬ HasGateOpen l sound) (IsGateOpenAs l sound)) is_log gate))
+      all_of frames found size taken (subst (λ n. MatchOption found (¬ WasKept log n) (IsKeptAs log n)) is_sound
+      (subst (λ l. MatchOption found (¬ WasKept l sound) (IsKeptAs l sound)) is_log gate))
 
   pub refused_log : (old new size : ℕ) (e : Error) → size ≡ be32 log 8 → e ≡ Corrupt → HasCause old new (RefusesLog size log) e → ¬ IsDamaged log
   refused_log old new size e is corrupt cause = elim (subst (HasCause old new (RefusesLog size log)) corrupt cause) [

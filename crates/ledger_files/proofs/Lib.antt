@@ -1,5 +1,6 @@
 pub mod ConnectingLemmas
 pub mod DamageLemmas
+pub mod FollowedLemmas
 pub mod UndamagedLemmas
 pub mod ClosingLemmas
 pub mod OpeningFinds

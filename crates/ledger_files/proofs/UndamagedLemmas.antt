@@ -31,7 +31,7 @@ module _ (size frames : ℕ) (log : List ℕ) (committed : IsCommitted size log 
   not_open other is =
       let same : other ≡ frames = replays_once size log other frames (subst (λ n. Replays n log other) size_is is.3) taken in
       let gate : frame_at (be32 log 8) other ≡ frame_at size frames = ap (λ n. frame_at n other) size_is ∙ ap (frame_at size) same in
-      shut.differs (ap (λ at. slice_index log (at + 8)) (sym gate) ∙ is.4.1 ∙ sym (slice_index-part log 0 32 16 (omega (arith, committed.long))))
+      shut.differs (ap (λ at. slice_index log (at + 8)) (sym gate) ∙ is.4.0.1 ∙ sym (slice_index-part log 0 32 16 (omega (arith, committed.long))))
 
   pub is_undamaged : ¬ IsDamaged log
   is_undamaged (inl header_is) = header_is.1 committed.head.signed

@@ -1,5 +1,5 @@
 -- what the program does by itself to a bureau's file, to its log, and to names beside them
-use Rattle.std.specs.Prelude.{◌≡◌, ◌≢◌, ◌<◌, ◌≤◌, ◌+◌, ℕ, List, codes, Option, Some, None, Result, Ok, Err, ⊤}
+use Rattle.std.specs.Prelude.{◌≡◌, ◌≢◌, ◌⊎◌, ◌<◌, ◌≤◌, ◌+◌, ℕ, List, codes, Option, Some, None, Result, Ok, Err, ⊤}
 use Rattle.std.specs.declared.io.ErrorKind.{ErrorKind}
 use Rattle.std.specs.declared.io.ErrorKind.TheVariants.{OutOfMemory, UnexpectedEof}
 use Rattle.sqlite_disk.specs.declared.Disk.{Ghosts}
@@ -15,6 +15,11 @@ abbrev pub AreLocked : {D : Type 0} {g : Ghosts D} → Kept D g → Type 0
 AreLocked (kept.Connection conn) = ⊤
 AreLocked (kept.Left rest) = ⊤
 AreLocked kept.Nothing = ⊥
+
+-- a log of this length and with this first byte is longer than an empty one, and has no header behind
+-- which recovery looks for frames: an open would empty it
+abbrev pub IsHeadless : ℕ → Option ℕ → Type 0
+IsHeadless length first = (41 < length) × ((length < 56) ⊎ (first ≢ Some 0x37))
 
 -- so is undone what an open that failed did to a log that had this length before, if there was one,
 -- and has this length now: one that was not there goes, if it is too short for a transaction; nine

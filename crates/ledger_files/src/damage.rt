@@ -5,14 +5,14 @@
 //! anything else is written there. So no stop leaves an unsound header behind its first byte, or an
 //! unsound commit behind an open gate.
 
-ghost use Rattle.std.specs.Prelude.{min, ◌≡◌, ◌≢◌, ◌⊎◌, ◌+◌, ◌-◌, ◌/◌, ◌<◌, ◌≤◌, ◌↔◌, ℕ, length, slice_index, IsTrue, IfErr, IfOk, MatchOption};
+ghost use Rattle.std.specs.Prelude.{min, ◌≡◌, ◌≢◌, ◌⊎◌, ◌+◌, ◌-◌, ◌/◌, ◌^◌, ◌<◌, ◌≤◌, ◌↔◌, ℕ, length, slice_index, IsTrue, IfErr, IfOk, IfSome, MatchOption};
 ghost use Rattle.sqlite_disk.specs.Disk.{CountsFault};
-ghost use Rattle.sqlite_wal.specs.Format.{be32, IsSigned};
+ghost use Rattle.sqlite_wal.specs.Format.{be32, IsSigned, part};
 ghost use Rattle.sqlite_wal.specs.Outcome.{HasCause, OnlyIf};
 ghost use Rattle.sqlite_wal.specs.PageSize.{bytes_of};
 ghost use Rattle.sqlite_wal.specs.Reads.{IsClean, OnlyReads};
 ghost use Rattle.sqlite_wal.specs.Recovery.{frame_at, header};
-ghost use Rattle.ledger_files.specs.Damage.{HasGateOpen, HasHeaderBegun, IsDamaged, IsDamagedAs, IsFull, IsGateOpenAs};
+ghost use Rattle.ledger_files.specs.Damage.{HasGateOpen, HasHeaderBegun, IsDamaged, IsDamagedAs, IsFirstEnd, IsFollowed, IsFull, IsKeptAs, WasKept, frames_in};
 
 use sqlite_disk::Disk;
 use sqlite_wal::{Error, PageSize, checksum_of, probe_frames};
@@ -97,32 +97,139 @@ fn gate_of(size: PageSize, frames: usize) -> usize
         .saturating_add(HEADER + GATE)
 }
 
-/// The damage of the commit behind so many frames, if its gate is open.
-fn find_gate<D: Disk>(
-    log: &mut D,
-    size: PageSize,
-    sound: usize,
-    key: u8,
-) -> io::Result<Option<Damage>>
+/// Whether the gate of the frame behind so many others is open.
+fn is_gate_open<D: Disk>(log: &mut D, size: PageSize, frames: usize, key: u8) -> io::Result<bool>
     requires usable { IsTrue (D.Disk.is_usable log.old) }
     requires size { IsClean D.Disk log.old → bytes_of size ≡ be32 (D.Disk.seen log.old) 8 }
     requires key { IsClean D.Disk log.old → key ≡ slice_index (D.Disk.seen log.old) 16 }
-    ensures ok { IfOk result (λ found. IsClean D.Disk log.new → MatchOption found
-        (¬ HasGateOpen (D.Disk.seen log.old) sound)
-        (IsGateOpenAs (D.Disk.seen log.old) sound)) }
+    ensures ok { IfOk result (λ is_open. IsClean D.Disk log.new
+        → (IsTrue is_open ↔ HasGateOpen (D.Disk.seen log.old) frames)) }
     ensures faults { CountsFault result (D.Disk.faults log.old) (D.Disk.faults log.new) }
     ensures same { OnlyReads D.Disk log.old log.new }
 {
-    let (gate, length) = (gate_of(size, sound), log.len()?);
-    if length <= gate {
-        return Ok(None);
+    let gate = gate_of(size, frames);
+    if log.len()? <= gate {
+        return Ok(false);
     }
     let mut byte = [0];
     log.read_at(gate, &mut byte)?;
-    if byte[0] != key {
+    Ok(byte[0] == key)
+}
+
+/// How many whole frames a log of this length has room for.
+fn frames_in(size: PageSize, length: usize) -> usize
+    ensures { result ≡ (length - 32) / (24 + bytes_of size) }
+{
+    length.saturating_sub(HEADER) / (FRAME_HEADER + size.bytes())
+}
+
+/// The beginning of the frame behind so many others: its header, and eight bytes of its page.
+fn read_frame<D: Disk>(log: &mut D, size: PageSize, frames: usize) -> io::Result<[u8; 32]>
+    requires usable { IsTrue (D.Disk.is_usable log.old) }
+    requires size { IsClean D.Disk log.old → bytes_of size ≡ be32 (D.Disk.seen log.old) 8 }
+    requires within { IsClean D.Disk log.old → frames < frames_in (D.Disk.seen log.old) }
+    requires fits { IsClean D.Disk log.old → length (D.Disk.seen log.old) < 2 ^ 64 }
+    ensures ok { IfOk result (λ frame. IsClean D.Disk log.new → frame
+        ≡ part (D.Disk.seen log.old) (frame_at (be32 (D.Disk.seen log.old) 8) frames) 32) }
+    ensures faults { CountsFault result (D.Disk.faults log.old) (D.Disk.faults log.new) }
+    ensures same { OnlyReads D.Disk log.old log.new }
+{
+    let mut frame = [0; 32];
+    log.read_at(gate_of(size, frames).saturating_sub(GATE), &mut frame)?;
+    Ok(frame)
+}
+
+/// Whether a frame has the salt of the header.
+fn has_salt(frame: &[u8; 32], head: &[u8; 32]) -> bool
+    ensures { IsTrue result ↔ ((be32 frame.now 8 ≡ be32 head.now 16)
+        × (be32 frame.now 12 ≡ be32 head.now 20)) }
+{
+    number_at(frame, 8) == number_at(head, SALT) && number_at(frame, 12) == number_at(head, 20)
+}
+
+/// Whether a commit ends with a frame.
+fn ends_commit(frame: &[u8; 32], head: &[u8; 32]) -> bool
+    ensures { IsTrue result ↔ (((be32 frame.now 8 ≡ be32 head.now 16)
+        × (be32 frame.now 12 ≡ be32 head.now 20)) × (be32 frame.now 4 ≢ 0)) }
+{
+    has_salt(frame, head) && number_at(frame, 4) != 0
+}
+
+/// The first of the frames behind so many others, up to a bound, with which a commit ends.
+fn first_end<D: Disk>(
+    log: &mut D,
+    size: PageSize,
+    frames: usize,
+    bound: usize,
+    head: &[u8; 32],
+) -> io::Result<Option<usize>>
+    requires usable { IsTrue (D.Disk.is_usable log.old) }
+    requires size { IsClean D.Disk log.old → bytes_of size ≡ be32 (D.Disk.seen log.old) 8 }
+    requires within { IsClean D.Disk log.old → bound ≤ frames_in (D.Disk.seen log.old) }
+    requires fits { IsClean D.Disk log.old → length (D.Disk.seen log.old) < 2 ^ 64 }
+    requires head { IsClean D.Disk log.old → head.now ≡ header (D.Disk.seen log.old) }
+    ensures ok { IfOk result (λ found. IsClean D.Disk log.new
+        → IsFirstEnd (D.Disk.seen log.old) frames bound found) }
+    ensures below { IfOk result (λ found. IfSome found (λ last. last < bound)) }
+    ensures faults { CountsFault result (D.Disk.faults log.old) (D.Disk.faults log.new) }
+    ensures same { OnlyReads D.Disk log.old log.new }
+{
+    for at in frames..bound {
+        let frame = read_frame(log, size, at)?;
+        if ends_commit(&frame, head) {
+            return Ok(Some(at));
+        }
+    }
+    Ok(None)
+}
+
+/// Whether the first commit that ends behind so many frames is followed by a frame.
+fn is_followed<D: Disk>(
+    log: &mut D,
+    size: PageSize,
+    frames: usize,
+    head: &[u8; 32],
+) -> io::Result<bool>
+    requires usable { IsTrue (D.Disk.is_usable log.old) }
+    requires size { IsClean D.Disk log.old → bytes_of size ≡ be32 (D.Disk.seen log.old) 8 }
+    requires head { IsClean D.Disk log.old → head.now ≡ header (D.Disk.seen log.old) }
+    ensures ok { IfOk result (λ followed. IsClean D.Disk log.new
+        → (IsTrue followed ↔ IsFollowed (D.Disk.seen log.old) frames)) }
+    ensures faults { CountsFault result (D.Disk.faults log.old) (D.Disk.faults log.new) }
+    ensures same { OnlyReads D.Disk log.old log.new }
+{
+    let bound = frames_in(size, log.len()?).saturating_sub(1);
+    let Some(last) = first_end(log, size, frames, bound, head)? else {
+        return Ok(false);
+    };
+    let next = read_frame(log, size, last + 1)?;
+    Ok(has_salt(&next, head))
+}
+
+/// The damage of the commit behind so many frames, if it was whole once.
+fn find_kept<D: Disk>(
+    log: &mut D,
+    size: PageSize,
+    sound: usize,
+    head: &[u8; 32],
+) -> io::Result<Option<Damage>>
+    requires usable { IsTrue (D.Disk.is_usable log.old) }
+    requires size { IsClean D.Disk log.old → bytes_of size ≡ be32 (D.Disk.seen log.old) 8 }
+    requires head { IsClean D.Disk log.old → head.now ≡ header (D.Disk.seen log.old) }
+    requires key { IsClean D.Disk log.old
+        → slice_index head.now 16 ≡ slice_index (D.Disk.seen log.old) 16 }
+    ensures ok { IfOk result (λ found. IsClean D.Disk log.new → MatchOption found
+        (¬ WasKept (D.Disk.seen log.old) sound) (IsKeptAs (D.Disk.seen log.old) sound)) }
+    ensures faults { CountsFault result (D.Disk.faults log.old) (D.Disk.faults log.new) }
+    ensures same { OnlyReads D.Disk log.old log.new }
+{
+    if !is_gate_open(log, size, sound, head[SALT])? {
         return Ok(None);
     }
-    let frames = (length - HEADER) / (FRAME_HEADER + size.bytes());
+    if !is_followed(log, size, sound, head)? {
+        return Ok(None);
+    }
+    let frames = frames_in(size, log.len()?);
     Ok(Some(Damage::Commit { sound, frames }))
 }
 
@@ -156,7 +263,7 @@ fn find_behind<D: Disk>(
         return Ok(None);
     };
     match probe_frames(alloc, log, size) {
-        Ok(numbers) => Ok(find_gate(log, size, numbers.as_slice().len(), head[SALT])?),
+        Ok(numbers) => Ok(find_kept(log, size, numbers.as_slice().len(), head)?),
         Err(error) if is_refusal(&error) => Ok(None),
         Err(error) => Err(error),
     }
@@ -179,4 +286,30 @@ pub(crate) fn find_damage<D: Disk>(alloc: Global, log: &mut D) -> Result<Option<
         return Ok(Some(Damage::Header));
     }
     find_behind(alloc, log, &head)
+}
+
+/// Whether the gate behind the frames is open that recovery takes of a log with a header.
+fn has_open_end<D: Disk>(alloc: Global, log: &mut D, head: &[u8; 32]) -> Result<bool, Error>
+    requires usable { IsTrue (D.Disk.is_usable log.old) }
+    requires head { IsClean D.Disk log.old → head.now ≡ header (D.Disk.seen log.old) }
+    requires begun { IsClean D.Disk log.old → HasHeaderBegun (D.Disk.seen log.old) }
+    ensures same { OnlyReads D.Disk log.old log.new }
+{
+    let Some(size) = PageSize::new(number_at(head, 8) as usize) else {
+        return Ok(false);
+    };
+    let numbers = probe_frames(alloc, log, size)?;
+    Ok(is_gate_open(log, size, numbers.as_slice().len(), head[SALT])?)
+}
+
+/// Whether a log ends in a commit that recovery does not take though its gate is open: the power
+/// went while it was written, or it is damaged. Nothing is written.
+pub(crate) fn is_torn<D: Disk>(alloc: Global, log: &mut D) -> Result<bool, Error>
+    requires { IsTrue (D.Disk.is_usable log.old) }
+    ensures same { OnlyReads D.Disk log.old log.new }
+{
+    let Some(head) = read_header(log)? else {
+        return Ok(false);
+    };
+    has_open_end(alloc, log, &head)
 }

@@ -12,33 +12,20 @@ use std::alloc::Global;
 /// this is kept.
 #[derive(Drop)]
 pub struct DamagedLog<D: Disk> {
-    path: String,
     damage: Damage,
     files: Files<D>,
     ghost told: { IsClean D.Disk files.log → ∥ IsDamagedAs (D.Disk.seen files.log) damage ∥₁ },
 }
 
 impl<D: Disk + Drop> DamagedLog<D> {
-    /// Looks at the log of files, which is at a path. Returns nothing if it is not damaged, or if that
-    /// cannot be told.
-    pub(crate) fn find(alloc: Global, path: String, mut files: Files<D>) -> Option<DamagedLog<D>>
+    /// Looks at the log of files. Returns nothing if it is not damaged, or if that cannot be told.
+    pub(crate) fn find(alloc: Global, mut files: Files<D>) -> Option<DamagedLog<D>>
         requires { IsTrue (D.Disk.is_usable files.log) }
     {
         match find_damage(alloc, &mut files.log) {
-            Ok(Some(damage)) => Some(DamagedLog {
-                path,
-                damage,
-                files,
-            }),
+            Ok(Some(damage)) => Some(DamagedLog { damage, files }),
             _ => None,
         }
-    }
-
-    /// Where the log is.
-    pub fn path(&self) -> &str
-        ensures { result.now ≡ self.now.path.bytes.items }
-    {
-        self.path.as_str()
     }
 
     /// What of the log is damaged.

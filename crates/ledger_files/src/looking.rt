@@ -7,11 +7,9 @@ ghost use Rattle.sqlite.specs.View.{IsClean};
 ghost use Rattle.office.specs.Office.{Office};
 ghost use Rattle.ledger.specs.Standing.{LeftAs, Stands};
 
-use crate::damaged_log::DamagedLog;
-use crate::places::Place;
 use crate::sources::Source;
 use ledger_tables::OpenFault;
-use sqlite::{Alter, Connection, File, Unknown};
+use sqlite::{Alter, Connection};
 use std::alloc::Global;
 
 /// A look into the tables of a bureau, whatever its store is. It keeps what it has seen.
@@ -44,11 +42,14 @@ pub fn look_into<L: Look>(rt: &HostRuntime, path: &str, look_at: &mut L) -> Resu
     }
 }
 
-/// Finds what of the log of the bureau's file at a path is damaged, if that can be told. Nothing is
-/// written.
-pub fn find_log_damage(rt: &HostRuntime, path: &str) -> Option<DamagedLog<File>> {
-    let place = Place::find(rt, path).ok()?;
-    place.log_length(rt)?;
-    let files = sqlite_std_file::open(rt, &place.file, Unknown).ok()?;
-    DamagedLog::find(rt.alloc(), place.into_log(), files)
+/// The fault by which the file at a path cannot be opened as a bureau's, if there is one. The file
+/// and its log are after it what they were.
+pub fn find_fault(rt: &HostRuntime, path: &str) -> Option<OpenFault> {
+    match Source::open(rt, path) {
+        Ok((source, bureau)) => {
+            source.release(rt, bureau.into_connection().into_store());
+            None
+        }
+        Err(fault) => Some(fault),
+    }
 }

@@ -8,10 +8,12 @@ ghost use Rattle.ledger_files.specs.Places.{AreLocked, BeginsAs, path_fault};
 mod parts;
 
 use crate::closed::Closed;
+use crate::damage::is_torn;
 use crate::kept::Kept;
-use crate::undoing::Undoing;
+use crate::undoing::{Undoing, is_headless};
 use ledger_tables::OpenFault;
 pub(crate) use parts::{Part, remove_second_name};
+use sqlite::Unknown;
 use sqlite_disk::Disk;
 use std::fs::{File, Metadata, OpenOptions};
 use std::io::{ErrorKind, Read};
@@ -76,9 +78,26 @@ impl Place {
         }
     }
 
-    /// Where the log is.
-    pub(crate) fn into_log(self) -> String {
-        self.log
+    /// Whether the log has bytes and no header behind which recovery looks: it was being emptied, or
+    /// is damaged, which nothing tells apart. An open would empty it.
+    pub(crate) fn has_headless_log(&self, rt: &HostRuntime) -> bool {
+        match File::open(rt, &self.log) {
+            Ok(mut log) => is_headless(self.log_length(rt).unwrap_or(0), first_of(&mut log)),
+            Err(_) => false,
+        }
+    }
+
+    /// Whether the log ends in a commit that is not whole, though it was written to its end, or as it
+    /// was when the power went. An open would drop that. It is not asked where there is no log, since
+    /// the files are opened for it.
+    pub(crate) fn has_torn_log(&self, rt: &HostRuntime) -> bool {
+        if self.log_length(rt).is_none() {
+            return false;
+        }
+        match sqlite_std_file::open(rt, &self.file, Unknown) {
+            Ok(mut files) => matches!(is_torn(rt.alloc(), &mut files.log), Ok(true)),
+            Err(_) => false,
+        }
     }
 
     /// Removes the log of the files that are here. They were closed: they hold their database with
@@ -109,6 +128,15 @@ impl Place {
     }
 }
 
+/// The first byte of a file, if it can be read.
+fn first_of(file: &mut File) -> Option<u8> {
+    let mut byte = [0u8];
+    match file.read_exact(&mut byte) {
+        Ok(()) => Some(byte[0]),
+        Err(_) => None,
+    }
+}
+
 /// Whether the first bytes of a file are a database's, or could not be read for an error of this
 /// kind.
 fn judge_beginning(read: Result<[u8; 16], ErrorKind>) -> Result<(), OpenFault>
@@ -131,7 +159,7 @@ fn read_beginning(file: &mut File) -> Result<[u8; 16], ErrorKind> {
 }
 
 /// Checks that there is a file at a path, and that it begins as a database does.
-fn look(rt: &HostRuntime, path: &str) -> Result<(), OpenFault>
+pub(crate) fn look(rt: &HostRuntime, path: &str) -> Result<(), OpenFault>
     ensures { IfErr result IsNotOld }
 {
     match fs::metadata(rt, path) {

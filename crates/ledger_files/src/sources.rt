@@ -28,12 +28,15 @@ pub(crate) struct Source {
 
 impl Source {
     /// Opens the bureau's file at a path. From then on no other program has it. If it cannot be
-    /// opened, its log becomes what it was.
+    /// opened, its log becomes what it was. It is not opened if that would change what the log has.
     pub(crate) fn open(
         rt: &HostRuntime,
         path: &str,
     ) -> Result<(Source, Bureau<FileStore<FileFrom<Unknown>>>), OpenFault> {
         let place = Place::find(rt, path)?;
+        if place.has_headless_log(rt) || place.has_torn_log(rt) {
+            return Err(OpenFault::Store);
+        }
         let log = place.log_length(rt);
         match open_from(rt, &place.file, Unknown) {
             Ok(bureau) => Ok((Source { place, log }, bureau)),

@@ -1,12 +1,27 @@
-//! What undoes that an open failed.
+//! What undoes that an open failed, and what cannot be undone.
 
-ghost use Rattle.ledger_files.specs.Places.{Undoes};
+ghost use Rattle.std.specs.Prelude.{IsTrue, ◌↔◌};
+ghost use Rattle.ledger_files.specs.Places.{IsHeadless, Undoes};
 
 /// The most bytes of a log that no transaction was written to.
 const EMPTY_LOG: u64 = 41;
 
 /// The number of bytes that an open adds to a log of another program.
 const ADDED: u64 = 9;
+
+/// The fewest bytes of a log that has a header and the beginning of a frame.
+const SHORTEST_LOG: u64 = 56;
+
+/// The first byte of a log's header, which is written last.
+const FIRST: u8 = 0x37;
+
+/// Whether a log of this length and with this first byte has more than an empty one, but no header
+/// behind which recovery looks: an open would empty it, and nothing undoes that.
+pub(crate) fn is_headless(length: u64, first: Option<u8>) -> bool
+    ensures { IsTrue result ↔ IsHeadless length first }
+{
+    length > EMPTY_LOG && (length < SHORTEST_LOG || first != Some(FIRST))
+}
 
 /// What is done to a log after an open that failed, so that it is again what it was before. No
 /// transaction is lost by it: a log that is damaged is not opened.

@@ -1,6 +1,6 @@
 //! What is printed where a new file is not made of a bureau's, or of two.
 
-use crate::faults::{tell_fault, tell_unopened};
+use crate::faults::{tell_no_memory, tell_unopened};
 use command_line::Status;
 use job_archives::Compared;
 use ledger_files::CopyFault;
@@ -55,7 +55,7 @@ fn tell_unmade<E: Write>(
     errors: &mut E,
 ) -> io::Result<Status> {
     match fault {
-        OpenFault::NoMemory => tell_fault(new, fault, errors),
+        OpenFault::NoMemory => tell_no_memory(new, errors),
         _ => {
             writeln!(errors, "{new}: fault 2: {words}")?;
             Ok(Status::Unusable)
@@ -83,7 +83,7 @@ fn tell_made<E: Write>(
 ) -> io::Result<Status> {
     let new = made.new;
     match fault {
-        OpenFault::NoMemory => tell_fault(new, fault, errors),
+        OpenFault::NoMemory => tell_no_memory(new, errors),
         _ => {
             write!(errors, "{new}: fault 2: {words}")?;
             tell_checks(made, errors)?;
@@ -150,13 +150,14 @@ fn tell_difference<E: Write>(made: Made<'_>, found: &Found, errors: &mut E) -> i
             tell_checks(made, errors)?;
             Ok(Status::NotDone)
         }
-        Some(Err(Fault::NoMemory)) => tell_fault(new, OpenFault::NoMemory, errors),
+        Some(Err(Fault::NoMemory)) => tell_no_memory(new, errors),
         _ => tell_made(made, OpenFault::Store, UNCOMPARED, errors),
     }
 }
 
 /// What is said where a new file cannot be made.
-const UNMADE: &str = "no file can be made there; is its folder there, and the disk not full?";
+const UNMADE: &str = "no file can be made there: its folder is missing or may not be written to, \
+                      or its disk is full; ls -ld and df show which";
 
 /// What is said where a new file cannot get its name. It gets it by a hard link, since nothing that
 /// is there may be replaced.
@@ -164,7 +165,7 @@ const LINKLESS: &str = "this disk knows no hard links, as an exFAT or FAT stick 
                         so no file gets its name there; make it on another disk, and copy it";
 
 /// What is said where a new file cannot be filled.
-const UNFILLED: &str = "it cannot be filled; is the disk full? Else ";
+const UNFILLED: &str = "it cannot be filled: its disk is full, which df shows; or ";
 
 /// What is said where a new file does not open: what it is made of was damaged where the opening of
 /// that did not look, or a disk is.

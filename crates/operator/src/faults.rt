@@ -1,63 +1,32 @@
 //! What is printed of a bureau's file that cannot be used, and of what failed.
 
 use command_line::Status;
-use ledger_files::{Damage, find_log_damage};
+use ledger_files::{Hindrance, find_hindrance};
 use ledger_tables::OpenFault;
 use std::io;
 use std::io::Write;
 
-/// Prints why a bureau's file cannot be used, and the way out.
-pub(crate) fn tell_fault<E: Write>(
-    path: &str,
-    fault: OpenFault,
-    errors: &mut E,
-) -> io::Result<Status> {
-    let (words, status) = match fault {
-        OpenFault::NoMemory => ("fault 1: there is no memory", Status::NotDone),
-        OpenFault::Store => (
-            "fault 2: the file cannot be used; is it there, and has no other program it open?",
-            Status::Unusable,
-        ),
-        OpenFault::NotABureau => (
-            "fault 50: that is no bureau's file, or one of a later version",
-            Status::Unusable,
-        ),
-        OpenFault::Old(_) => (
-            "fault 51: the file is of an earlier version; bureau migrate makes it one of this",
-            Status::Unusable,
-        ),
-    };
-    writeln!(errors, "{path}: {words}")?;
-    Ok(status)
+/// Prints that there is no memory, and the way out.
+pub(crate) fn tell_no_memory<E: Write>(path: &str, errors: &mut E) -> io::Result<Status> {
+    let told = Hindrance::NoMemory;
+    writeln!(errors, "{path}: fault 1: {told}")?;
+    Ok(Status::NotDone)
 }
 
-/// Prints why a bureau's file was not opened, and what of its log is damaged, if that can be told.
+/// Prints why a bureau's file was not opened, and the way out.
 pub(crate) fn tell_unopened<E: Write>(
     rt: &HostRuntime,
     path: &str,
     fault: OpenFault,
     errors: &mut E,
 ) -> io::Result<Status> {
-    let status = tell_fault(path, fault, errors)?;
-    if let (OpenFault::Store, Some(log)) = (fault, find_log_damage(rt, path)) {
-        tell_damage(log.path(), log.damage(), errors)?;
+    if let OpenFault::NoMemory = fault {
+        return tell_no_memory(path, errors);
     }
-    Ok(status)
-}
-
-/// Prints what of a log is damaged, and what to do first.
-fn tell_damage<E: Write>(log: &str, damage: Damage, errors: &mut E) -> io::Result<()> {
-    match damage {
-        Damage::Header => write!(errors, "{log}: the header is damaged")?,
-        Damage::Commit { sound, frames } => {
-            let first = sound.saturating_add(1);
-            write!(
-                errors,
-                "{log}: damaged in the commit that begins at frame {first} of {frames}"
-            )?;
-        }
-    }
-    writeln!(errors, "; copy this log and its file before anything else")
+    let number = fault.number();
+    let told = find_hindrance(rt, path, fault);
+    writeln!(errors, "{path}: fault {number}: {told}")?;
+    Ok(Status::Unusable)
 }
 
 /// The status of what was done. If it failed, the error is printed behind a name.

@@ -81,7 +81,7 @@ fn remove_part(rt: &HostRuntime, part: &str, archive: &Archive) -> io::Result<bo
 }
 
 /// Writes the folder of a job under another name, and then renames it. What a killed run has left
-/// under the other name is replaced.
+/// under the other name is replaced. If the folder cannot be written, nothing is left of it.
 fn write_folder(
     rt: &HostRuntime,
     customer: &str,
@@ -97,8 +97,15 @@ fn write_folder(
     if !is_free {
         return Ok(Filed::Hindered(part));
     }
-    fill(rt, &part, archive)?;
-    fs::rename(rt, &part, path)?;
+    let mut filed = fill(rt, &part, archive);
+    if filed.is_ok() {
+        filed = fs::rename(rt, &part, path);
+    }
+    if filed.is_err() {
+        // What cannot be removed is told of by the next archive.
+        let _ = remove_part(rt, &part, archive);
+    }
+    filed?;
     settle(rt, customer)?;
     Ok(Filed::Written)
 }

@@ -91,12 +91,12 @@ fn tell_idle<E: Write>(
         Some(Passed::Failed(status)) => {
             writeln!(
                 errors,
-                "; the last was answered {status}: is the disk full?"
+                "; the last was answered {status}: its disk may be full, which df shows"
             )
         }
         Some(Passed::Lost) => writeln!(
             errors,
-            "; the last was cut off: does the bureau end, or is the disk full?"
+            "; the last was cut off: the bureau ended, or its disk is full, which df shows"
         ),
         None => writeln!(errors),
     }
@@ -115,7 +115,7 @@ fn tell_end<E: Write>(
         Why::Idle => tell_idle(port, rounds, outcome, errors)?,
         Why::Away => writeln!(
             errors,
-            "port {port}: no answer in {MOST_TRIES} tries; is bureau serve running there?"
+            "port {port}: no answer in {MOST_TRIES} tries; begin bureau serve there"
         )?,
         Why::Foreign => writeln!(errors, "port {port}: the answer is not that of a bureau")?,
     }
