@@ -21,6 +21,7 @@
 
 mod connections;
 mod ended;
+mod explaining;
 mod exporting;
 mod migrating;
 mod outcomes;
@@ -35,6 +36,7 @@ ghost use Rattle.command_line.specs.Programs.{IsVersion};
 ghost use Rattle.command_line.specs.declared.subcommands.Subcommand.{Subcommand};
 ghost use Rattle.bureau.specs.Answers.{HasAnswered, HasAssembled, HasEnded, HasEndedMigration, HasEndedScript};
 
+use crate::explaining::{Overheard, explain, is_wanted};
 use crate::exporting::export;
 use crate::migrating::tell_migrated;
 use crate::outcomes::{Outcome, show_outcome};
@@ -188,10 +190,25 @@ fn answer<W: Write, E: Write>(
     }
 }
 
-/// Does what the process's arguments ask for.
+/// Explains what went wrong with the task that the arguments after the program's name ask for.
+fn explain_task<W: Write, E: Write>(
+    rt: &HostRuntime,
+    arguments: &[String],
+    output: &Overheard<W>,
+    errors: &mut Overheard<E>,
+) -> io::Result<()> {
+    let told = errors.heard();
+    match task_of(rt.alloc(), arguments) {
+        Ok(task) => explain(rt, task, output.heard(), told, errors),
+        Err(_) => Ok(()),
+    }
+}
+
+/// Does what the process's arguments ask for. What went wrong is explained if that is wanted.
 fn carry_out(rt: &HostRuntime) -> io::Result<Status> {
-    let mut output = rt.stdout();
-    let mut errors = Unfailing::new(rt.stderr());
+    let is_explained = is_wanted(rt);
+    let mut output = Overheard::new(rt.stdout(), is_explained);
+    let mut errors = Overheard::new(Unfailing::new(rt.stderr()), is_explained);
     let arguments = match arguments_given(rt) {
         Ok(arguments) => arguments,
         Err(mistake) => return tell_mistake(&mut errors, "bureau", mistake),
@@ -202,7 +219,11 @@ fn carry_out(rt: &HostRuntime) -> io::Result<Status> {
     } else {
         &arguments[1..]
     };
-    answer(rt, after_name, &mut output, &mut errors)
+    let status = answer(rt, after_name, &mut output, &mut errors)?;
+    if is_explained {
+        explain_task(rt, after_name, &output, &mut errors)?;
+    }
+    Ok(status)
 }
 
 fn main(rt: HostRuntime) -> ExitCode {

@@ -72,6 +72,9 @@ exit status:
   2  the arguments are not as above
   3  the bureau's file could not be used: fault 2, 50 or 51
 
+On a terminal, or where BUREAU_EXPLAIN is set, further lines on standard error
+say in words what went wrong, and the way out.
+
 faults and refusals:
   1       there is not enough memory        end other programs, or run it on a
                                             larger computer
@@ -231,7 +234,10 @@ SCRIPT  a command on each line, its words with one blank between them. Each
                                            and N lines, a card of 80 glyphs each
           slice CUSTOMER NUMBER LIMIT      runs 1 to 2000 instructions
           start CUSTOMER NUMBER SWITCHES   lets a halted job go on
-          hold, release, collect or standing CUSTOMER NUMBER
+          hold CUSTOMER NUMBER             it does not run then
+          release CUSTOMER NUMBER          a held job may run again
+          collect CUSTOMER NUMBER          it is done with: it runs no more
+          standing CUSTOMER NUMBER         how it stands
           jobs CUSTOMER
           queue
         KIND is object for cards that load themselves, or autocoder for a source

@@ -22,6 +22,7 @@
 
 mod arguments;
 mod errors;
+mod fault_rows;
 mod faults;
 mod help;
 mod laws;
@@ -33,6 +34,7 @@ mod places;
 mod plain;
 mod ports;
 mod programs;
+mod script_forms;
 mod statuses;
 mod subcommands;
 mod tables;
@@ -41,12 +43,14 @@ mod telling;
 
 pub use arguments::Found;
 pub use errors::Unfailing;
+pub use fault_rows::{tell_fault_row, tell_refusal_row};
 pub use faults::Fault;
 pub use laws::arguments_are_those_of_the_table;
 pub use mistakes::{Mistake, tell_mistake};
 pub use misuses::Misuse;
 pub use near::is_near;
 pub use programs::{Asked, Program, Syntax, asked_by};
+pub use script_forms::{tell_command_form, tell_commands};
 pub use statuses::{Status, exit_code};
 pub use subcommands::Subcommand;
 pub use tables::Kind;
