@@ -1,9 +1,11 @@
 //! The effective position of an address in a storage.
 
 ghost use Rattle.std.specs.Prelude.{◌≡◌, ◌<◌, ◌≤◌, ℕ, nat_lt, length, Some, IfSome, Ok, IfOk};
-ghost use Rattle.core_store.specs.Checked.{require};
-ghost use Rattle.core_store.specs.declared.checks.Check.TheVariants.{Address};
-ghost use Rattle.core_store.specs.Storage.{largest_size};
+ghost use Rattle.core_store.specs.{
+  Checked.{require},
+  declared.checks.Check.TheVariants.{Address},
+  Storage.{largest_size},
+};
 ghost use Rattle.addresses.specs.Effective.{base_ending, with_index, effective, position_of};
 
 use crate::tables::{UNREADABLE, base};

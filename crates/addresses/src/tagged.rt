@@ -3,8 +3,10 @@
 ghost use Rattle.std.specs.Prelude.{◌≡◌, ◌<◌, ℕ, IfSome};
 ghost use Rattle.core_store.specs.Storage.{largest_size};
 ghost use Rattle.bcd.specs.Table.{zone_of};
-ghost use Rattle.addresses.specs.Addresses.{location_of, tagged, decoded};
-ghost use Rattle.addresses.specs.Effective.{units_position};
+ghost use Rattle.addresses.specs.{
+  Addresses.{location_of, tagged, decoded},
+  Effective.{units_position},
+};
 
 use crate::tables::{UNREADABLE, base};
 use bcd::{Code, Zone};

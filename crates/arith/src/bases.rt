@@ -1,8 +1,7 @@
 //! Modify address.
 
 ghost use Rattle.std.specs.Prelude.{◌≡◌, ◌+◌, ◌-◌, ◌<◌, ◌≤◌, ◌&&◌, ℕ, length, IsTrue};
-ghost use Rattle.core_store.specs.Doing.{Does};
-ghost use Rattle.core_store.specs.Storage.{largest_size};
+ghost use Rattle.core_store.specs.{Doing.{Does}, Storage.{largest_size}};
 ghost use Rattle.addresses.specs.Stored.{has_three};
 ghost use Rattle.arith.specs.Bases.{modified};
 

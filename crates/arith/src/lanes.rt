@@ -1,8 +1,10 @@
 //! Digits of at most sixteen characters, all at once.
 
-ghost use Rattle.std.specs.Prelude.{◌≡◌, ◌+◌, ◌-◌, ◌<◌, ◌≤◌, ◌%◌, ◌^◌, ◌++◌, All, bit_and, length, map, max, nat_lt, replicate, slice_index, take, drop, if◌then◌else◌, [], ◌∷◌, true};
-ghost use Rattle.std.specs.List.{list_any};
-ghost use Rattle.std.specs.Simd.Lanes.{sum_l, zip2};
+ghost use Rattle.std.specs.{
+  Prelude.{◌≡◌, ◌+◌, ◌-◌, ◌<◌, ◌≤◌, ◌%◌, ◌^◌, ◌++◌, All, bit_and, length, map, max, nat_lt, replicate, slice_index, take, drop, if◌then◌else◌, [], ◌∷◌, true},
+  List.{list_any},
+  Simd.Lanes.{sum_l, zip2},
+};
 ghost use Rattle.bcd.specs.Table.{zone_of};
 ghost use Rattle.arith.specs.Columns.{characters, digit_of_part, number, sign_bits};
 

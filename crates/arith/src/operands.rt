@@ -1,8 +1,7 @@
 //! The number of characters that arithmetic reads.
 
 ghost use Rattle.std.specs.Prelude.{◌≡◌, ◌≤◌, ℕ, false, IfOk, IfSome, Ok};
-ghost use Rattle.core_store.specs.Storage.{Storage};
-ghost use Rattle.core_store.specs.Operands.{is_overlapping};
+ghost use Rattle.core_store.specs.{Storage.{Storage}, Operands.{is_overlapping}};
 ghost use Rattle.arith.specs.Operands.{counts_at, counts_apart, AreCounts, AreOfFields};
 
 use core_store::{Check, Core, are_inside, check_inside, cut_length, field_length, overlaps};

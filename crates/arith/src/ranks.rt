@@ -1,12 +1,12 @@
 //! Compare, by the ranks of characters.
 
-ghost use Rattle.std.specs.Prelude.{◌≡◌, ◌+◌, ◌<◌, ◌≤◌, ◌==◌, not, ℕ, List, true, false, length, Ok};
-ghost use Rattle.std.specs.Simd.Lanes.{mask_l, zip2};
+ghost use Rattle.std.specs.{
+  Prelude.{◌≡◌, ◌+◌, ◌<◌, ◌≤◌, ◌==◌, not, ℕ, List, true, false, length, Ok},
+  Simd.Lanes.{mask_l, zip2},
+};
 ghost use Rattle.bcd.specs.Table.{rank_of};
-ghost use Rattle.core_store.specs.Doing.{Does};
-ghost use Rattle.core_store.specs.Storage.{code_at, codes_ending};
-ghost use Rattle.arith.specs.Operands.{AreCounts};
-ghost use Rattle.arith.specs.Order.{order, IsOrder, compared, comparison};
+ghost use Rattle.core_store.specs.{Doing.{Does}, Storage.{code_at, codes_ending}};
+ghost use Rattle.arith.specs.{Operands.{AreCounts}, Order.{order, IsOrder, compared, comparison}};
 
 use crate::operands::{Counts, counts_at, near_counts};
 use core_store::{Check, Compared, Core, Registers};

@@ -1,11 +1,12 @@
 //! Add and subtract.
 
 ghost use Rattle.std.specs.Prelude.{◌≡◌, ◌+◌, ◌-◌, ◌<◌, ◌≤◌, ℕ, false, true, length, Ok};
-ghost use Rattle.core_store.specs.Doing.{Does, DoesOrLeaves};
-ghost use Rattle.core_store.specs.Storage.{codes_ending, put_codes};
-ghost use Rattle.core_store.specs.Operands.{is_overlapping};
-ghost use Rattle.arith.specs.Operands.{AreCounts};
-ghost use Rattle.arith.specs.Sums.{added, sum_codes, sum_overflows};
+ghost use Rattle.core_store.specs.{
+  Doing.{Does, DoesOrLeaves},
+  Storage.{codes_ending, put_codes},
+  Operands.{is_overlapping},
+};
+ghost use Rattle.arith.specs.{Operands.{AreCounts}, Sums.{added, sum_codes, sum_overflows}};
 
 use crate::decimal::{is_number, sign_zone};
 use crate::joining::{Joined, join};

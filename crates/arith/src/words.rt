@@ -1,9 +1,10 @@
 //! Sixteen digits as one number, of which a difference is taken at once.
 
-ghost use Rattle.std.specs.Prelude.{◌≡◌, ◌<◌, ◌≤◌, All, length, map, nat_lt};
-ghost use Rattle.std.specs.Int.{abs_diff};
-ghost use Rattle.arith.specs.Columns.{digit_of_part, number};
-ghost use Rattle.arith.specs.Words.{bytes_of, digit_of_byte, word_of};
+ghost use Rattle.std.specs.{Prelude.{◌≡◌, ◌<◌, ◌≤◌, All, length, map, nat_lt}, Int.{abs_diff}};
+ghost use Rattle.arith.specs.{
+  Columns.{digit_of_part, number},
+  Words.{bytes_of, digit_of_byte, word_of},
+};
 
 use crate::lanes::digits;
 use std::simd::prelude::*;

@@ -2,8 +2,10 @@
 
 ghost use Rattle.std.specs.Prelude.{List};
 ghost use Rattle.cards.specs.declared.decks.Card.{Card};
-ghost use Rattle.autocoder.specs.Loadable.{IsLoadable};
-ghost use Rattle.autocoder.specs.Programs.{IsFaultless, image_for, size_for, start_for};
+ghost use Rattle.autocoder.specs.{
+  Loadable.{IsLoadable},
+  Programs.{IsFaultless, image_for, size_for, start_for},
+};
 
 /// The law of faultless sources: the program of a source that has no fault can be loaded by cards
 /// into a storage of the source's size.

@@ -2,10 +2,11 @@
 
 ghost use Rattle.std.specs.Prelude.{◌≡◌, ◌≤◌, ◌++◌, length, IfOk, OnOk};
 ghost use Rattle.cards.specs.Decks.{largest_deck};
-ghost use Rattle.autocoder_layout.specs.Bounds.{most_literals};
-ghost use Rattle.autocoder_layout.specs.Source.{source_of};
-ghost use Rattle.autocoder.specs.Listing.{literal_line, card_lines, literal_lines, listing_for};
-ghost use Rattle.autocoder.specs.Programs.{IsProgramOf};
+ghost use Rattle.autocoder_layout.specs.{Bounds.{most_literals}, Source.{source_of}};
+ghost use Rattle.autocoder.specs.{
+  Listing.{literal_line, card_lines, literal_lines, listing_for},
+  Programs.{IsProgramOf},
+};
 
 use crate::lines::{card_line, push_glyphs, push_line, push_number};
 use crate::program::Program;

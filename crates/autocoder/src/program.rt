@@ -3,8 +3,10 @@
 ghost use Rattle.std.specs.Prelude.{◌≡◌, ◌-◌, length, slice_index_or, IfOk, IfErr, OnOk};
 ghost use Rattle.core_store.specs.Storage.{positions_of};
 ghost use Rattle.autocoder_layout.specs.Source.{IsInRange, silent, source_of};
-ghost use Rattle.autocoder.specs.Loadable.{CanBeLoaded, IsRising};
-ghost use Rattle.autocoder.specs.Programs.{start_by, IsProgramOf, IsFaultless, AreFaults};
+ghost use Rattle.autocoder.specs.{
+  Loadable.{CanBeLoaded, IsRising},
+  Programs.{start_by, IsProgramOf, IsFaultless, AreFaults},
+};
 
 use crate::faults::{Faults, Faulty, has_some};
 use autocoder_layout::{Cell, Judgement, Layout, Line, Slot, Source, Value, first_instruction};

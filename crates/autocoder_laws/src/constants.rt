@@ -1,11 +1,12 @@
 //! The law of constants.
 
 ghost use Rattle.std.specs.Prelude.{◌≡◌, ◌++◌, List, Some, ℕ};
-ghost use Rattle.autocoder_statements.specs.Constants.{constant};
-ghost use Rattle.autocoder_statements.specs.Statements.{whole};
-ghost use Rattle.autocoder_statements.specs.declared.constants.Constant.{Constant};
-ghost use Rattle.autocoder_laws.specs.Texts.{Joined, IsEnd};
-ghost use Rattle.autocoder_laws.specs.Constants.{IsConstant};
+ghost use Rattle.autocoder_statements.specs.{
+  Constants.{constant},
+  Statements.{whole},
+  declared.constants.Constant.{Constant},
+};
+ghost use Rattle.autocoder_laws.specs.{Texts.{Joined, IsEnd}, Constants.{IsConstant}};
 
 /// The law of constants, which `DCW` and `DC` have: characters between two `@`, digits with a sign
 /// or without, and a number of blanks are read as they are spelled, and only what is so spelled is

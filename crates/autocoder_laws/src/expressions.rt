@@ -1,12 +1,16 @@
 //! The law of expressions.
 
 ghost use Rattle.std.specs.Prelude.{◌≡◌, ◌++◌, List, Some, ℕ};
-ghost use Rattle.autocoder_statements.specs.Expressions.{expression};
-ghost use Rattle.autocoder_statements.specs.Ranges.{IsAdjustmentInRange};
-ghost use Rattle.autocoder_statements.specs.Statements.{whole};
-ghost use Rattle.autocoder_statements.specs.declared.expressions.Expression.{Expression};
-ghost use Rattle.autocoder_laws.specs.Texts.{Joined, IsEnd};
-ghost use Rattle.autocoder_laws.specs.Addresses.{HasSpelling, IsExpression};
+ghost use Rattle.autocoder_statements.specs.{
+  Expressions.{expression},
+  Ranges.{IsAdjustmentInRange},
+  Statements.{whole},
+  declared.expressions.Expression.{Expression},
+};
+ghost use Rattle.autocoder_laws.specs.{
+  Texts.{Joined, IsEnd},
+  Addresses.{HasSpelling, IsExpression},
+};
 
 /// The law of expressions, which `ORG`, `EQU` and `END` have: a number or a name, with the number
 /// that is added to it or taken away, is read as it is spelled, and only what is so spelled is

@@ -2,10 +2,12 @@
 
 ghost use Rattle.std.specs.Prelude.{◌≡◌, ◌<◌, ◌∷◌, [], ℕ, List, length, false};
 ghost use Rattle.cards.specs.declared.decks.Card.{Card};
-ghost use Rattle.autocoder_layout.specs.CardFaults.{faults_of};
-ghost use Rattle.autocoder_layout.specs.Layout.{Laid, IsLayout};
-ghost use Rattle.autocoder_layout.specs.Source.{has_end, lines_of};
-ghost use Rattle.autocoder_layout.specs.declared.faults.SourceFault as source;
+ghost use Rattle.autocoder_layout.specs.{
+  CardFaults.{faults_of},
+  Layout.{Laid, IsLayout},
+  Source.{has_end, lines_of},
+  declared.faults.SourceFault as source,
+};
 ghost use Rattle.autocoder_laws.specs.Faults.{AreLowest};
 
 /// The law of faults: the faults of a source are, of each card that has any, the one with the

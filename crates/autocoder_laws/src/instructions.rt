@@ -2,16 +2,17 @@
 
 ghost use Rattle.std.specs.Prelude.{◌≡◌, ℕ, List, Option, Some, Ok};
 ghost use Rattle.cards.specs.declared.decks.Card.{Card};
-ghost use Rattle.autocoder_statements.specs.Mnemonics.{mnemonics, entry, mnemonic_of, instruction_with, IsAmong};
-ghost use Rattle.autocoder_statements.specs.Statements.{statement_on};
-ghost use Rattle.autocoder_statements.specs.declared.operand_forms.OperandForm.{OperandForm};
-ghost use Rattle.autocoder_statements.specs.declared.names.Name.{Name};
-ghost use Rattle.autocoder_statements.specs.declared.operands.Operands.{Operands};
-ghost use Rattle.autocoder_statements.specs.declared.operand_forms.OperandForms.{OperandForms};
-ghost use Rattle.autocoder_statements.specs.declared.operations.Instruction.{Instruction};
-ghost use Rattle.autocoder_statements.specs.declared.reading.Statement as statement;
-ghost use Rattle.autocoder_laws.specs.Cards.{mnemonic_on};
-ghost use Rattle.autocoder_laws.specs.Instructions.{IsOfForm, IsAssembledAs};
+ghost use Rattle.autocoder_statements.specs.{
+  Mnemonics.{mnemonics, entry, mnemonic_of, instruction_with, IsAmong},
+  Statements.{statement_on},
+  declared.operand_forms.OperandForm.{OperandForm},
+  declared.names.Name.{Name},
+  declared.operands.Operands.{Operands},
+  declared.operand_forms.OperandForms.{OperandForms},
+  declared.operations.Instruction.{Instruction},
+  declared.reading.Statement as statement,
+};
+ghost use Rattle.autocoder_laws.specs.{Cards.{mnemonic_on}, Instructions.{IsOfForm, IsAssembledAs}};
 
 /// The law of instructions: each mnemonic, in each of its forms, with each last character that it
 /// allows, is assembled to an instruction that the machine decodes as the operation that the

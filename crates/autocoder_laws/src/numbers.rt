@@ -1,11 +1,12 @@
 //! The law of numbers.
 
 ghost use Rattle.std.specs.Prelude.{◌≡◌, ◌<◌, ◌++◌, ℕ, List, Some};
-ghost use Rattle.autocoder_statements.specs.Expressions.{positive};
-ghost use Rattle.autocoder_statements.specs.Laws.{digits_of};
-ghost use Rattle.autocoder_statements.specs.Statements.{whole};
-ghost use Rattle.autocoder_laws.specs.Texts.{Joined, IsEnd};
-ghost use Rattle.autocoder_laws.specs.Numbers.{IsPositive};
+ghost use Rattle.autocoder_statements.specs.{
+  Expressions.{positive},
+  Laws.{digits_of},
+  Statements.{whole},
+};
+ghost use Rattle.autocoder_laws.specs.{Texts.{Joined, IsEnd}, Numbers.{IsPositive}};
 
 /// The law of numbers, which `DS` has: a number that is spelled at the beginning of a field and
 /// ended there is read as that number, and what is read as a number is so spelled. Each number from

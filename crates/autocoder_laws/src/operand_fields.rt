@@ -1,11 +1,12 @@
 //! The law of operand fields.
 
 ghost use Rattle.std.specs.Prelude.{◌≡◌, ◌++◌, List, Some, ℕ};
-ghost use Rattle.autocoder_statements.specs.Operands.{operands};
-ghost use Rattle.autocoder_statements.specs.declared.operand_forms.OperandForm.{OperandForm};
-ghost use Rattle.autocoder_statements.specs.declared.operands.Operands.{Operands};
-ghost use Rattle.autocoder_laws.specs.Texts.{Joined, IsEnd};
-ghost use Rattle.autocoder_laws.specs.OperandFields.{AreOperands};
+ghost use Rattle.autocoder_statements.specs.{
+  Operands.{operands},
+  declared.operand_forms.OperandForm.{OperandForm},
+  declared.operands.Operands.{Operands},
+};
+ghost use Rattle.autocoder_laws.specs.{Texts.{Joined, IsEnd}, OperandFields.{AreOperands}};
 
 /// The law of operand fields: the operands of each form are read as they are spelled, whatever
 /// comment comes after them, and only operands that are so spelled are read. So a field has one

@@ -4,11 +4,15 @@ ghost use Rattle.std.specs.Prelude.{◌≡◌, ◌≤◌, ℕ, List, Some};
 ghost use Rattle.addresses.specs.Effective.{position_of};
 ghost use Rattle.core_store.specs.Storage.{Storage, largest_size};
 ghost use Rattle.machine.specs.Word.{operand_at};
-ghost use Rattle.autocoder_statements.specs.declared.operands.Operand.{Operand};
-ghost use Rattle.autocoder_statements.specs.declared.operations.Instruction.{Instruction};
-ghost use Rattle.autocoder_layout.specs.Cells.{instruction_codes};
-ghost use Rattle.autocoder_layout.specs.Literals.{Characters};
-ghost use Rattle.autocoder_layout.specs.declared.slots.Slot.{Slot};
+ghost use Rattle.autocoder_statements.specs.{
+  declared.operands.Operand.{Operand},
+  declared.operations.Instruction.{Instruction},
+};
+ghost use Rattle.autocoder_layout.specs.{
+  Cells.{instruction_codes},
+  Literals.{Characters},
+  declared.slots.Slot.{Slot},
+};
 ghost use Rattle.autocoder_laws.specs.Operands.{meant_by};
 
 /// The law of operands: the machine reads each address of an assembled instruction as the position

@@ -2,8 +2,10 @@
 
 ghost use Rattle.std.specs.Prelude.{◌≡◌, ◌↔◌, length, Ok, IsErr};
 ghost use Rattle.cards.specs.declared.decks.Card.{Card};
-ghost use Rattle.autocoder_statements.specs.Statements.{statement_on};
-ghost use Rattle.autocoder_statements.specs.declared.reading.Statement.{Statement};
+ghost use Rattle.autocoder_statements.specs.{
+  Statements.{statement_on},
+  declared.reading.Statement.{Statement},
+};
 ghost use Rattle.autocoder_laws.specs.Cards.{IsCard};
 
 /// The law of cards: a card on which a statement is spelled is read as that statement, and a card

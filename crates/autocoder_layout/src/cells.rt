@@ -2,14 +2,18 @@
 
 ghost use Rattle.std.specs.Prelude.{◌≡◌, ◌+◌, ◌≤◌, ◌<◌, ◌++◌, length, drop, slice_index_or, option_to_list, replicate, IfSome, Some, IfOk, OnOk};
 ghost use Rattle.core_store.specs.Storage.{largest_size, positions_of};
-ghost use Rattle.autocoder_layout.specs.Bounds.{farthest, most_literals};
-ghost use Rattle.autocoder_layout.specs.Slots.{origin};
-ghost use Rattle.autocoder_layout.specs.Source.{silent};
-ghost use Rattle.autocoder_layout.specs.Names.{IsValueWithin};
-ghost use Rattle.autocoder_layout.specs.Cells.{blank, row, field, literal_cells, tag, position_in, operand_codes, instruction_codes, blank_after, constant_codes, cut_constant, cells_of};
-ghost use Rattle.autocoder_layout.specs.Judging.{IsCut};
-ghost use Rattle.autocoder_statements.specs.Ranges.{IsConstantInRange, IsInstructionInRange, IsOperandInRange};
-ghost use Rattle.autocoder_statements.specs.Limits.{number_limit};
+ghost use Rattle.autocoder_layout.specs.{
+  Bounds.{farthest, most_literals},
+  Slots.{origin},
+  Source.{silent},
+  Names.{IsValueWithin},
+  Cells.{blank, row, field, literal_cells, tag, position_in, operand_codes, instruction_codes, blank_after, constant_codes, cut_constant, cells_of},
+  Judging.{IsCut},
+};
+ghost use Rattle.autocoder_statements.specs.{
+  Ranges.{IsConstantInRange, IsInstructionInRange, IsOperandInRange},
+  Limits.{number_limit},
+};
 
 use crate::layout::Layout;
 use crate::literals::literal_end;

@@ -2,9 +2,11 @@
 
 ghost use Rattle.std.specs.Prelude.{◌≡◌, ◌<◌, length, slice_index_or, IfSome};
 ghost use Rattle.core_store.specs.Storage.{positions_of};
-ghost use Rattle.autocoder_layout.specs.Slots.{origin};
-ghost use Rattle.autocoder_layout.specs.Source.{IsInRange, silent};
-ghost use Rattle.autocoder_layout.specs.Judging.{expression_in, expressions_of, is_unknown, is_outside, has_unknown_name, has_value_outside, names_unknown, names_outside, passes_outside, fills_outside, fills_reserved, is_beyond, fault_by};
+ghost use Rattle.autocoder_layout.specs.{
+  Slots.{origin},
+  Source.{IsInRange, silent},
+  Judging.{expression_in, expressions_of, is_unknown, is_outside, has_unknown_name, has_value_outside, names_unknown, names_outside, passes_outside, fills_outside, fills_reserved, is_beyond, fault_by},
+};
 ghost use Rattle.autocoder_statements.specs.Ranges.{IsOperandInRange, IsExpressionInRange};
 
 use crate::cells::{Cell, FIRST_FREE};

@@ -1,11 +1,15 @@
 //! The laws of layouts and literals.
 
-ghost use Rattle.std.specs.Prelude.{◌≡◌, ◌≢◌, ◌++◌, ◌∷◌, [], ℕ, List, if◌then◌else◌};
-ghost use Rattle.std.specs.List.{AllPairs};
-ghost use Rattle.autocoder_layout.specs.Source.{Line};
-ghost use Rattle.autocoder_layout.specs.Layout.{Laid, IsLayout, layout_of};
-ghost use Rattle.autocoder_layout.specs.Literals.{Characters, is_used, uses_of, firsts, literals_of};
-ghost use Rattle.autocoder_layout.specs.declared.slots.Slot.{Slot};
+ghost use Rattle.std.specs.{
+  Prelude.{◌≡◌, ◌≢◌, ◌++◌, ◌∷◌, [], ℕ, List, if◌then◌else◌},
+  List.{AllPairs},
+};
+ghost use Rattle.autocoder_layout.specs.{
+  Source.{Line},
+  Layout.{Laid, IsLayout, layout_of},
+  Literals.{Characters, is_used, uses_of, firsts, literals_of},
+  declared.slots.Slot.{Slot},
+};
 
 /// The law of layouts: a source has exactly one layout.
 pub fn layout_is_unique()

@@ -2,9 +2,11 @@
 
 ghost use Rattle.std.specs.Prelude.{◌≡◌, ◌≤◌, length, IfOk};
 ghost use Rattle.core_store.specs.Storage.{positions_of, largest_size};
-ghost use Rattle.autocoder_layout.specs.Bounds.{IsLaidOut};
-ghost use Rattle.autocoder_layout.specs.Layout.{laid_out};
-ghost use Rattle.autocoder_layout.specs.Names.{value_in, IsValueWithin};
+ghost use Rattle.autocoder_layout.specs.{
+  Bounds.{IsLaidOut},
+  Layout.{laid_out},
+  Names.{value_in, IsValueWithin},
+};
 ghost use Rattle.autocoder_statements.specs.Ranges.{IsExpressionInRange};
 
 use crate::literals::literals_of;

@@ -1,10 +1,14 @@
 //! The literals of a source: their order, and their places.
 
-ghost use Rattle.std.specs.Prelude.{◌≡◌, ◌+◌, ◌*◌, ◌≤◌, ◌++◌, [], length, bytes_eq, IfOk, OnOk};
-ghost use Rattle.std.specs.List.{list_any};
+ghost use Rattle.std.specs.{
+  Prelude.{◌≡◌, ◌+◌, ◌*◌, ◌≤◌, ◌++◌, [], length, bytes_eq, IfOk, OnOk},
+  List.{list_any},
+};
 ghost use Rattle.autocoder_statements.specs.Limits.{longest_text};
-ghost use Rattle.autocoder_layout.specs.Bounds.{farthest, most_literals};
-ghost use Rattle.autocoder_layout.specs.Literals.{literal_in, uses_in, uses_of, firsts, literals_of, literal_end};
+ghost use Rattle.autocoder_layout.specs.{
+  Bounds.{farthest, most_literals},
+  Literals.{literal_in, uses_in, uses_of, firsts, literals_of, literal_end},
+};
 
 use crate::slots::Slot;
 use crate::source::{Line, Source};

@@ -1,8 +1,10 @@
 //! Names and the values of addresses.
 
 ghost use Rattle.std.specs.Prelude.{◌≡◌, ◌≤◌, IfSome, find, option_copied};
-ghost use Rattle.autocoder_layout.specs.Names.{defines, address_of, within, base_number, value_in, IsValueWithin};
-ghost use Rattle.autocoder_layout.specs.Bounds.{IsWithin, farthest};
+ghost use Rattle.autocoder_layout.specs.{
+  Names.{defines, address_of, within, base_number, value_in, IsValueWithin},
+  Bounds.{IsWithin, farthest},
+};
 ghost use Rattle.autocoder_statements.specs.Ranges.{IsBaseInRange, IsExpressionInRange};
 
 use crate::slots::Slot;

@@ -2,10 +2,12 @@
 
 ghost use Rattle.std.specs.Prelude.{◌≡◌, [], length, IfOk, OnOk};
 ghost use Rattle.core_store.specs.Storage.{positions_of};
-ghost use Rattle.autocoder_layout.specs.CardFaults.{faults_from, faults_of, last_fault};
-ghost use Rattle.autocoder_layout.specs.Image.{image_of};
-ghost use Rattle.autocoder_layout.specs.Layout.{fills_of, layout_in};
-ghost use Rattle.autocoder_layout.specs.Tables.{IsTableOf};
+ghost use Rattle.autocoder_layout.specs.{
+  CardFaults.{faults_from, faults_of, last_fault},
+  Image.{image_of},
+  Layout.{fills_of, layout_in},
+  Tables.{IsTableOf},
+};
 
 use crate::card_faults::{CardFault, push_fault, push_no_end};
 use crate::cells::Cell;

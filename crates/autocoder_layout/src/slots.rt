@@ -3,8 +3,10 @@
 ghost use Rattle.std.specs.Prelude.{◌≡◌, ◌+◌, ◌≤◌, ◌<◌, [], length, reverse, find, option_copied, IfOk};
 ghost use Rattle.cards.specs.Decks.{largest_deck};
 ghost use Rattle.core_store.specs.Storage.{positions_of};
-ghost use Rattle.autocoder_layout.specs.Bounds.{IsWithin, farthest, last_place};
-ghost use Rattle.autocoder_layout.specs.Source.{IsInRange};
+ghost use Rattle.autocoder_layout.specs.{
+  Bounds.{IsWithin, farthest, last_place},
+  Source.{IsInRange},
+};
 ghost use Rattle.autocoder_statements.specs.Ranges.{IsExpressionInRange};
 ghost use Rattle.autocoder_layout.specs.Slots.{place_after, is_nothing, is_instruction, has_place, is_open, is_closed, place_after_blank, stays, takes, with_label, with_any_label, moved_to, equal_to, has_start, end_fault, end_slot, run, constant, area, instruction, equate_slot, slot_of, slots_from};
 

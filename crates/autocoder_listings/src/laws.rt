@@ -2,14 +2,14 @@
 
 ghost use Rattle.std.specs.Prelude.{ℕ, ◌≡◌, ◌≢◌, true, List, flat_map, AllPairs, Contains};
 ghost use Rattle.cards.specs.declared.decks.Card.{Card};
-ghost use Rattle.autocoder_layout.specs.declared.cells.Cell.{Cell};
-ghost use Rattle.autocoder_layout.specs.declared.slots.Slot.{Slot};
-ghost use Rattle.autocoder.specs.Listing.{line_text};
-ghost use Rattle.autocoder.specs.Programs.{IsFaultless, image_for};
-ghost use Rattle.autocoder_listings.specs.Coded.{lines_with_code};
-ghost use Rattle.autocoder_listings.specs.Narrow.{is_placed, lines_below};
-ghost use Rattle.autocoder_listings.specs.Reading.{code_shown};
-ghost use Rattle.autocoder_listings.specs.Widths.{behind, lines_beside, lines_under};
+ghost use Rattle.autocoder_layout.specs.{declared.cells.Cell.{Cell}, declared.slots.Slot.{Slot}};
+ghost use Rattle.autocoder.specs.{Listing.{line_text}, Programs.{IsFaultless, image_for}};
+ghost use Rattle.autocoder_listings.specs.{
+  Coded.{lines_with_code},
+  Narrow.{is_placed, lines_below},
+  Reading.{code_shown},
+  Widths.{behind, lines_beside, lines_under},
+};
 
 /// The law of the code in a listing: the characters that the listing of a source without faults
 /// shows, each row from its address on, are those of the program's image with their word marks, and

@@ -1,10 +1,14 @@
 //! The names of a source: their addresses, and the cards that use them.
 
-ghost use Rattle.std.specs.Prelude.{◌≡◌, ◌*◌, ◌<◌, ◌≤◌, ◌++◌, ◌∷◌, ◌||◌, [], length, codes, flat_map, IfOk, OnOk};
-ghost use Rattle.std.specs.List.{items_where_true};
+ghost use Rattle.std.specs.{
+  Prelude.{◌≡◌, ◌*◌, ◌<◌, ◌≤◌, ◌++◌, ◌∷◌, ◌||◌, [], length, codes, flat_map, IfOk, OnOk},
+  List.{items_where_true},
+};
 ghost use Rattle.cards.specs.Decks.{largest_deck};
-ghost use Rattle.autocoder_listings.specs.Rows.{row_of, rows_of};
-ghost use Rattle.autocoder_listings.specs.Names.{is_name, has_name, uses, users, numbers_of, name_line, users_line, users_lines, lines_of_name, lines_of_defined, heading, table_of_names, users_on_line};
+ghost use Rattle.autocoder_listings.specs.{
+  Rows.{row_of, rows_of},
+  Names.{is_name, has_name, uses, users, numbers_of, name_line, users_line, users_lines, lines_of_name, lines_of_defined, heading, table_of_names, users_on_line},
+};
 
 use crate::widths::Width;
 use autocoder::{push_fillers, push_glyphs, push_line, push_number};

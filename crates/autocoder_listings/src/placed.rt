@@ -2,8 +2,10 @@
 
 ghost use Rattle.std.specs.Prelude.{◌≡◌, ◌++◌, length, IfOk, OnOk};
 ghost use Rattle.autocoder.specs.Listing.{card_line};
-ghost use Rattle.autocoder_listings.specs.Coded.{counted_line, first_line, lines_with_code};
-ghost use Rattle.autocoder_listings.specs.Listing.{lines_in};
+ghost use Rattle.autocoder_listings.specs.{
+  Coded.{counted_line, first_line, lines_with_code},
+  Listing.{lines_in},
+};
 
 use crate::rows::{push_further_lines, push_row, row_at};
 use crate::widths::Width;

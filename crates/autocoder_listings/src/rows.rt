@@ -1,8 +1,10 @@
 //! The rows in which the code of a card is shown.
 
 ghost use Rattle.std.specs.Prelude.{◌≡◌, ◌*◌, ◌≤◌, ◌++◌, length, flat_map, IfOk, OnOk};
-ghost use Rattle.autocoder_listings.specs.Rows.{glyphs_shown, rows_for, row_at, address_of, with_row};
-ghost use Rattle.autocoder_listings.specs.Coded.{further_line, further_lines};
+ghost use Rattle.autocoder_listings.specs.{
+  Rows.{glyphs_shown, rows_for, row_at, address_of, with_row},
+  Coded.{further_line, further_lines},
+};
 
 use autocoder::{push_fillers, push_line, push_number};
 use autocoder_layout::Cell;

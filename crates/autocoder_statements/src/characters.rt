@@ -1,8 +1,10 @@
 //! The characters of a field, and what a field begins with.
 
 ghost use Rattle.std.specs.Prelude.{◌≡◌, ◌<◌, ◌≤◌, ◌^◌, length, IsTrue};
-ghost use Rattle.autocoder_statements.specs.Expressions.{most_digits};
-ghost use Rattle.autocoder_statements.specs.Characters.{is_of, run, begins, begins_with_letter, is_between, is_blank, is_ended, number_of, digit_value, with_blanks};
+ghost use Rattle.autocoder_statements.specs.{
+  Expressions.{most_digits},
+  Characters.{is_of, run, begins, begins_with_letter, is_between, is_blank, is_ended, number_of, digit_value, with_blanks},
+};
 
 use bcd::Code;
 

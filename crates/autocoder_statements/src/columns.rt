@@ -1,10 +1,11 @@
 //! The fields of a card, by their columns.
 
-ghost use Rattle.std.specs.Prelude.{◌≡◌, length};
-ghost use Rattle.std.specs.List.{list_all};
-ghost use Rattle.autocoder_statements.specs.Limits.{longest_text};
-ghost use Rattle.autocoder_statements.specs.Characters.{is_blank};
-ghost use Rattle.autocoder_statements.specs.Statements.{label_field, operation_field, operand_field, is_comment, is_broken, operation_in, operation_of, operation_columns};
+ghost use Rattle.std.specs.{Prelude.{◌≡◌, length}, List.{list_all}};
+ghost use Rattle.autocoder_statements.specs.{
+  Limits.{longest_text},
+  Characters.{is_blank},
+  Statements.{label_field, operation_field, operand_field, is_comment, is_broken, operation_in, operation_of, operation_columns},
+};
 
 use crate::characters::{Class, begins, is_blank, with_blanks};
 use crate::operations::{LONGEST_OPERATION, Operation, operation_named};

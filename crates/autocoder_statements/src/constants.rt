@@ -3,9 +3,11 @@
 //! Each reader returns what it read and how many characters that takes.
 
 ghost use Rattle.std.specs.Prelude.{◌≡◌, ◌<◌, ◌≤◌, length, IfSome};
-ghost use Rattle.autocoder_statements.specs.Constants.{quoted_run, quoted_text, sign_zone, with_zone, signed_digits, literal, constant, constant_length};
-ghost use Rattle.autocoder_statements.specs.Ranges.{IsTextInRange, IsConstantInRange};
-ghost use Rattle.autocoder_statements.specs.Limits.{longest_text};
+ghost use Rattle.autocoder_statements.specs.{
+  Constants.{quoted_run, quoted_text, sign_zone, with_zone, signed_digits, literal, constant, constant_length},
+  Ranges.{IsTextInRange, IsConstantInRange},
+  Limits.{longest_text},
+};
 
 use crate::characters::{Class, begins, digit_value};
 use crate::expressions::{read_positive, signed_run};

@@ -3,9 +3,11 @@
 //! Each reader returns what it read and how many characters that takes.
 
 ghost use Rattle.std.specs.Prelude.{◌≡◌, ◌<◌, ◌≤◌, length, IfSome};
-ghost use Rattle.autocoder_statements.specs.Ranges.{IsBaseInRange, IsAdjustmentInRange, IsExpressionInRange, IsPositiveInRange};
-ghost use Rattle.autocoder_statements.specs.Limits.{number_limit};
-ghost use Rattle.autocoder_statements.specs.Expressions.{number, adjustment_by, positive, signed_run, base, adjustment, index, expression, address};
+ghost use Rattle.autocoder_statements.specs.{
+  Ranges.{IsBaseInRange, IsAdjustmentInRange, IsExpressionInRange, IsPositiveInRange},
+  Limits.{number_limit},
+  Expressions.{number, adjustment_by, positive, signed_run, base, adjustment, index, expression, address},
+};
 
 use crate::characters::{Class, begins, begins_with_letter, number_of};
 use crate::names::{Name, name_of};

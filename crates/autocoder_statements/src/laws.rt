@@ -1,10 +1,12 @@
 //! Laws of numbers, of the tables and of the forms.
 
 ghost use Rattle.std.specs.Prelude.{◌≡◌, ◌<◌, ◌≤◌, ◌^◌, ◌++◌, ℕ, List, Some, true, false};
-ghost use Rattle.autocoder_statements.specs.Expressions.{digit_run, most_digits, number};
-ghost use Rattle.autocoder_statements.specs.Laws.{IsOneOperation, digits_of, fits};
-ghost use Rattle.autocoder_statements.specs.declared.operand_forms.OperandForm.TheVariants.{Empty, One, Two};
-ghost use Rattle.autocoder_statements.specs.declared.operand_kinds.OperandKind.{OperandKind};
+ghost use Rattle.autocoder_statements.specs.{
+  Expressions.{digit_run, most_digits, number},
+  Laws.{IsOneOperation, digits_of, fits},
+  declared.operand_forms.OperandForm.TheVariants.{Empty, One, Two},
+  declared.operand_kinds.OperandKind.{OperandKind},
+};
 
 /// The law of numbers: a number spelled in one to five digits is read as that number, if no digit
 /// follows.

@@ -1,8 +1,10 @@
 //! Names: labels, and the names that addresses begin with.
 
 ghost use Rattle.std.specs.Prelude.{◌≡◌, ◌==◌, ◌&&◌, ◌||◌};
-ghost use Rattle.autocoder_statements.specs.Characters.{run};
-ghost use Rattle.autocoder_statements.specs.Names.{is_index_name, is_name, name_of};
+ghost use Rattle.autocoder_statements.specs.{
+  Characters.{run},
+  Names.{is_index_name, is_name, name_of},
+};
 
 use crate::characters::{Class, begins, begins_with_letter, with_blanks};
 use bcd::Code;

@@ -1,10 +1,12 @@
 //! The forms of the operand field of an instruction.
 
 ghost use Rattle.std.specs.Prelude.{◌≡◌, ◌≤◌, length, IfSome};
-ghost use Rattle.autocoder_statements.specs.Operands.{operands};
-ghost use Rattle.autocoder_statements.specs.Mnemonics.{operands_if, operands_in};
-ghost use Rattle.autocoder_statements.specs.Ranges.{AreOperandsInRange};
-ghost use Rattle.autocoder_statements.specs.Limits.{longest_text};
+ghost use Rattle.autocoder_statements.specs.{
+  Operands.{operands},
+  Mnemonics.{operands_if, operands_in},
+  Ranges.{AreOperandsInRange},
+  Limits.{longest_text},
+};
 
 use crate::modifiers::{Modifiers, read_modifier, read_next_modifier};
 use crate::operand_kinds::OperandKind;

@@ -1,9 +1,11 @@
 //! The operands of an instruction.
 
 ghost use Rattle.std.specs.Prelude.{◌≡◌, ◌≤◌, length, IfSome};
-ghost use Rattle.autocoder_statements.specs.Operands.{begins_literal, operand, next_operand, without_modifier, with_modifier};
-ghost use Rattle.autocoder_statements.specs.Ranges.{IsOperandInRange, AreOperandsInRange};
-ghost use Rattle.autocoder_statements.specs.Limits.{longest_text};
+ghost use Rattle.autocoder_statements.specs.{
+  Operands.{begins_literal, operand, next_operand, without_modifier, with_modifier},
+  Ranges.{IsOperandInRange, AreOperandsInRange},
+  Limits.{longest_text},
+};
 
 use crate::characters::{begins, is_ended};
 use crate::constants::read_literal;

@@ -1,10 +1,12 @@
 //! The operation field: the orders to the assembler and the mnemonics of instructions.
 
 ghost use Rattle.std.specs.Prelude.{◌≡◌, ◌≤◌, length, IfSome, option_map};
-ghost use Rattle.autocoder_statements.specs.Characters.{begins};
-ghost use Rattle.autocoder_statements.specs.Mnemonics.{orders, mnemonics, entry, operation_named, code_of, instruction, or_else, present, instruction_length};
-ghost use Rattle.autocoder_statements.specs.Ranges.{IsInstructionInRange};
-ghost use Rattle.autocoder_statements.specs.Limits.{longest_text};
+ghost use Rattle.autocoder_statements.specs.{
+  Characters.{begins},
+  Mnemonics.{orders, mnemonics, entry, operation_named, code_of, instruction, or_else, present, instruction_length},
+  Ranges.{IsInstructionInRange},
+  Limits.{longest_text},
+};
 
 use crate::characters::begins;
 use crate::modifiers::Modifiers;

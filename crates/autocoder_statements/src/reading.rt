@@ -1,11 +1,13 @@
 //! A card of a source, read as a statement.
 
 ghost use Rattle.std.specs.Prelude.{◌≡◌, ◌≤◌, length, IfSome, IfOk, ◌||◌, if◌then◌else◌};
-ghost use Rattle.autocoder_statements.specs.Expressions.{positive, expression};
-ghost use Rattle.autocoder_statements.specs.Constants.{constant};
-ghost use Rattle.autocoder_statements.specs.Statements.{must_label, may_label, is_broken, label_field, operation_field, may_not_label, whole, size, start, statement_of, statement_on};
-ghost use Rattle.autocoder_statements.specs.Ranges.{IsExpressionInRange, IsConstantInRange, IsPositiveInRange, IsStatementInRange};
-ghost use Rattle.autocoder_statements.specs.Limits.{longest_text};
+ghost use Rattle.autocoder_statements.specs.{
+  Expressions.{positive, expression},
+  Constants.{constant},
+  Statements.{must_label, may_label, is_broken, label_field, operation_field, may_not_label, whole, size, start, statement_of, statement_on},
+  Ranges.{IsExpressionInRange, IsConstantInRange, IsPositiveInRange, IsStatementInRange},
+  Limits.{longest_text},
+};
 
 use crate::characters::{Class, begins, is_ended};
 use crate::columns::{

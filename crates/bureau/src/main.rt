@@ -29,11 +29,13 @@ mod scripting;
 mod serving;
 
 ghost use Rattle.std.specs.Prelude.{Option, IfOk};
-ghost use Rattle.command_line.specs.Printed.{IsTextShown, version_text};
-ghost use Rattle.command_line.specs.Asked.{IsHelp, page_of};
-ghost use Rattle.command_line.specs.Plain.{texts};
-ghost use Rattle.command_line.specs.Programs.{IsVersion};
-ghost use Rattle.command_line.specs.declared.subcommands.Subcommand.{Subcommand};
+ghost use Rattle.command_line.specs.{
+  Printed.{IsTextShown, version_text},
+  Asked.{IsHelp, page_of},
+  Plain.{texts},
+  Programs.{IsVersion},
+  declared.subcommands.Subcommand.{Subcommand},
+};
 ghost use Rattle.bureau.specs.Answers.{HasAnswered, HasAssembled, HasEnded, HasEndedMigration, HasEndedScript};
 
 use crate::explaining::{Overheard, explain, is_wanted};

@@ -1,8 +1,7 @@
 //! Telling what came of a migration of a bureau's file.
 
 ghost use Rattle.std.specs.Prelude.{OnOk};
-ghost use Rattle.bureau.specs.Migrating.{TellsMigrated, version_words};
-ghost use Rattle.bureau.specs.Outcomes.{IsLine};
+ghost use Rattle.bureau.specs.{Migrating.{TellsMigrated, version_words}, Outcomes.{IsLine}};
 
 use crate::outcomes::Outcome;
 use ledger_files::{Migrated, Unfinished};

@@ -2,8 +2,10 @@
 
 ghost use Rattle.std.specs.Prelude.{◌≡◌, ◌≢◌, ℕ, List};
 ghost use Rattle.office.specs.declared.commands.Command.{Command};
-ghost use Rattle.scripts.specs.Scripts.{IsScriptOf, IsFaultOf};
-ghost use Rattle.scripts.specs.declared.faults.ScriptFault.{ScriptFault};
+ghost use Rattle.scripts.specs.{
+  Scripts.{IsScriptOf, IsFaultOf},
+  declared.faults.ScriptFault.{ScriptFault},
+};
 ghost use Rattle.bureau_laws.specs.Same.{AreSameCommands};
 
 /// The law of scripts: bytes are a script of one list of commands, or have one fault, and not both.

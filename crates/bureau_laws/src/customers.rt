@@ -1,12 +1,15 @@
 //! The law of customers.
 
-ghost use Rattle.std.specs.Prelude.{◌≡◌, ℕ, List, map, true, false};
-ghost use Rattle.std.specs.List.{AllByRecursion};
-ghost use Rattle.office.specs.Office.{Office, own, take, fold};
-ghost use Rattle.office.specs.declared.commands.Command.{Command};
-ghost use Rattle.bureau_laws.specs.Customers.{names, commands_of, replies_to, own_round, own_kept, answers_to};
-ghost use Rattle.bureau_laws.specs.KeptRounds.{KeptRound, IsChain, left_by, kept_in, answers_in};
-ghost use Rattle.bureau_laws.specs.Rounds.{Round, AreKept};
+ghost use Rattle.std.specs.{Prelude.{◌≡◌, ℕ, List, map, true, false}, List.{AllByRecursion}};
+ghost use Rattle.office.specs.{
+  Office.{Office, own, take, fold},
+  declared.commands.Command.{Command},
+};
+ghost use Rattle.bureau_laws.specs.{
+  Customers.{names, commands_of, replies_to, own_round, own_kept, answers_to},
+  KeptRounds.{KeptRound, IsChain, left_by, kept_in, answers_in},
+  Rounds.{Round, AreKept},
+};
 
 /// The law of customers: the replies to a customer's commands in a list are the replies to these
 /// commands alone, given to the customer's own part of the office. Commands that name other

@@ -2,9 +2,11 @@
 
 ghost use Rattle.std.specs.Prelude.{◌≡◌, ◌≢◌, ◌⊎◌, ◌↔◌, ◌<◌, ◌≤◌, ◌++◌, ℕ, List, [], length};
 ghost use Rattle.httparse.specs.Grammar.{ReadsRequest, RequestHead, print_request};
-ghost use Rattle.http_messages.specs.Judging.{BeginsWith, IsRefused, most_bytes};
-ghost use Rattle.http_messages.specs.Requests.{IsRequestOf};
-ghost use Rattle.http_messages.specs.declared.request.Request.{Request};
+ghost use Rattle.http_messages.specs.{
+  Judging.{BeginsWith, IsRefused, most_bytes},
+  Requests.{IsRequestOf},
+  declared.request.Request.{Request},
+};
 ghost use Rattle.bureau_laws.specs.Ends.{EndsWithBody, HasWholeBody, IsTooLarge};
 
 /// The law of the ends of requests: a request that is cut short, in its head or in its body, is

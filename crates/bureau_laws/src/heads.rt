@@ -2,10 +2,14 @@
 
 ghost use Rattle.std.specs.Prelude.{◌≡◌, ◌⊎◌, ◌↔◌, ℕ, List};
 ghost use Rattle.httparse.specs.Grammar.{ReadsRequest, RequestHead};
-ghost use Rattle.http_messages.specs.Judging.{AsksFor, BeginsWith, Refuses};
-ghost use Rattle.http_messages.specs.declared.targets.Target.{Target};
-ghost use Rattle.bureau_laws.specs.Same.{IsSameStatus};
-ghost use Rattle.bureau_laws.specs.Statuses.{EndsInBadTarget, HasFurtherFault};
+ghost use Rattle.http_messages.specs.{
+  Judging.{AsksFor, BeginsWith, Refuses},
+  declared.targets.Target.{Target},
+};
+ghost use Rattle.bureau_laws.specs.{
+  Same.{IsSameStatus},
+  Statuses.{EndsInBadTarget, HasFurtherFault},
+};
 
 /// The law of heads: bytes begin with at most one head, and the bytes after it are determined.
 pub fn one_head()

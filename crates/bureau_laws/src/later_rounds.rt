@@ -1,11 +1,15 @@
 //! The law of repeats over rounds.
 
 ghost use Rattle.std.specs.Prelude.{◌≡◌, ◌⊎◌, ◌++◌, ◌∷◌, ℕ, List};
-ghost use Rattle.office.specs.Office.{Office, take, fold};
-ghost use Rattle.office.specs.declared.commands.Command.{Command};
-ghost use Rattle.office.specs.declared.replies.Reply.{Reply};
-ghost use Rattle.bureau_laws.specs.Repeats.{IsRepeatOf, IsNumberTaken, IsLastPlaceTaken};
-ghost use Rattle.bureau_laws.specs.KeptRounds.{KeptRound, IsChain, Answer, answers_in, IsTakenAlready};
+ghost use Rattle.office.specs.{
+  Office.{Office, take, fold},
+  declared.commands.Command.{Command},
+  declared.replies.Reply.{Reply},
+};
+ghost use Rattle.bureau_laws.specs.{
+  Repeats.{IsRepeatOf, IsNumberTaken, IsLastPlaceTaken},
+  KeptRounds.{KeptRound, IsChain, Answer, answers_in, IsTakenAlready},
+};
 
 use office::submissions_repeat;
 

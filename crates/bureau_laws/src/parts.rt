@@ -1,10 +1,11 @@
 //! The law of parts and joins.
 
 ghost use Rattle.std.specs.Prelude.{◌≡◌, ◌++◌, ℕ, List, true};
-ghost use Rattle.office.specs.Office.{Office, fold};
-ghost use Rattle.office.specs.declared.commands.Command.{Command};
-ghost use Rattle.job_archives.specs.Parts.{HasNoJobs, is_among, part_of};
-ghost use Rattle.job_archives.specs.declared.customers.Customers.{Customers};
+ghost use Rattle.office.specs.{Office.{Office, fold}, declared.commands.Command.{Command}};
+ghost use Rattle.job_archives.specs.{
+  Parts.{HasNoJobs, is_among, part_of},
+  declared.customers.Customers.{Customers},
+};
 ghost use Rattle.bureau_laws.specs.Customers.{replies_to};
 
 use job_archives::{joins_keep_customers, parts_keep_customers};

@@ -1,14 +1,18 @@
 //! The law of refusals of commands on jobs.
 
-ghost use Rattle.std.specs.Prelude.{◌≡◌, ◌↔◌, ℕ, String, string_bytes};
-ghost use Rattle.std.specs.declared.alloc.Global.{Global};
-ghost use Rattle.office.specs.Jobs.{Job};
-ghost use Rattle.office.specs.Kept.{kept_of, take_kept};
-ghost use Rattle.office.specs.Office.{Office, take};
-ghost use Rattle.office.specs.declared.commands.Command.{Command};
-ghost use Rattle.office.specs.declared.commands.JobCommand.{JobCommand};
-ghost use Rattle.office.specs.declared.refusals.Refusal.{Refusal};
-ghost use Rattle.office.specs.declared.replies.Reply.{Reply};
+ghost use Rattle.std.specs.{
+  Prelude.{◌≡◌, ◌↔◌, ℕ, String, string_bytes},
+  declared.alloc.Global.{Global},
+};
+ghost use Rattle.office.specs.{
+  Jobs.{Job},
+  Kept.{kept_of, take_kept},
+  Office.{Office, take},
+  declared.commands.Command.{Command},
+  declared.commands.JobCommand.{JobCommand},
+  declared.refusals.Refusal.{Refusal},
+  declared.replies.Reply.{Reply},
+};
 ghost use Rattle.bureau_laws.specs.Refusals.{HoldsIn, HoldsNone, IsFirst, IsLetThrough, IsRefusedWhere, tested_for};
 
 /// The law of refusals of commands on jobs: a command on a job is refused for each reason exactly

@@ -1,9 +1,11 @@
 //! The law of repeats.
 
 ghost use Rattle.std.specs.Prelude.{◌≡◌, ◌⊎◌, ℕ, List};
-ghost use Rattle.office.specs.Office.{Office, take, fold};
-ghost use Rattle.office.specs.declared.commands.Command.{Command};
-ghost use Rattle.office.specs.declared.replies.Reply.{Reply};
+ghost use Rattle.office.specs.{
+  Office.{Office, take, fold},
+  declared.commands.Command.{Command},
+  declared.replies.Reply.{Reply},
+};
 ghost use Rattle.bureau_laws.specs.Repeats.{IsRepeatOf, IsNumberTaken, IsLastPlaceTaken};
 
 use office::submissions_repeat;

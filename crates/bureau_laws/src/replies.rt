@@ -1,27 +1,35 @@
 //! The law of replies.
 
 ghost use Rattle.std.specs.Prelude.{◌≡◌, ◌<◌, ◌^◌, ℕ, All, List, Option, Some};
-ghost use Rattle.http_messages.specs.ReplyBodies.{body_of};
-ghost use Rattle.http_messages.specs.Fixed.{fault_bytes, fault_status, refusing_status};
-ghost use Rattle.http_messages.specs.Replies.{refused_bytes, reply_bytes, status_of};
-ghost use Rattle.http_messages.specs.declared.fixed.Fault.{Fault};
-ghost use Rattle.machine.specs.Ranges.{IsInRange};
-ghost use Rattle.machine.specs.Run.{State};
-ghost use Rattle.machine.specs.Standings.{standing_of};
-ghost use Rattle.machine.specs.declared.standings.StandingAt.{StandingAt};
-ghost use Rattle.office.specs.Numbers.{refusal_number};
-ghost use Rattle.office.specs.Queued.{QueuedJob};
-ghost use Rattle.office.specs.declared.refusals.Refusal.{Refusal};
-ghost use Rattle.office.specs.declared.replies.Reply as office;
-ghost use Rattle.office.specs.declared.replies.Reply.TheVariants as told;
-ghost use Rattle.office.specs.declared.summaries.Summary.{Summary};
-ghost use Rattle.queue_rounds.specs.Answers.{Stands};
-ghost use Rattle.queue_rounds.specs.Responses.{IsReplyIn, IsResponse};
-ghost use Rattle.queue_rounds.specs.StandingTexts.{IsInStorage};
-ghost use Rattle.queue_rounds.specs.declared.replies.Outcome.{Outcome};
-ghost use Rattle.queue_rounds.specs.declared.replies.Outcome.TheVariants as outcome;
-ghost use Rattle.queue_rounds.specs.declared.replies.Passed.TheVariants as passed;
-ghost use Rattle.queue_rounds.specs.declared.replies.Reply.{Reply};
+ghost use Rattle.http_messages.specs.{
+  ReplyBodies.{body_of},
+  Fixed.{fault_bytes, fault_status, refusing_status},
+  Replies.{refused_bytes, reply_bytes, status_of},
+  declared.fixed.Fault.{Fault},
+};
+ghost use Rattle.machine.specs.{
+  Ranges.{IsInRange},
+  Run.{State},
+  Standings.{standing_of},
+  declared.standings.StandingAt.{StandingAt},
+};
+ghost use Rattle.office.specs.{
+  Numbers.{refusal_number},
+  Queued.{QueuedJob},
+  declared.refusals.Refusal.{Refusal},
+  declared.replies.Reply as office,
+  declared.replies.Reply.TheVariants as told,
+  declared.summaries.Summary.{Summary},
+};
+ghost use Rattle.queue_rounds.specs.{
+  Answers.{Stands},
+  Responses.{IsReplyIn, IsResponse},
+  StandingTexts.{IsInStorage},
+  declared.replies.Outcome.{Outcome},
+  declared.replies.Outcome.TheVariants as outcome,
+  declared.replies.Passed.TheVariants as passed,
+  declared.replies.Reply.{Reply},
+};
 ghost use Rattle.bureau_laws.specs.Replies.{HasBody, HasCounts, ReadsQueue, ReadsSlice, ReadsStanding, IsAnswer, IsJob, IsListed, IsOfJob, IsRan, stands_told};
 
 /// The law of replies: what the counter writes is read as it was meant. The bytes of each of its replies

@@ -2,8 +2,7 @@
 
 ghost use Rattle.std.specs.Prelude.{◌≡◌, ℕ, List};
 ghost use Rattle.httparse.specs.Grammar.{ReadsRequest, RequestHead};
-ghost use Rattle.http_messages.specs.Requests.{IsRequestOf};
-ghost use Rattle.http_messages.specs.declared.request.Request.{Request};
+ghost use Rattle.http_messages.specs.{Requests.{IsRequestOf}, declared.request.Request.{Request}};
 ghost use Rattle.bureau_laws.specs.Same.{IsSameRequest};
 
 use cards::one_reading;

@@ -2,12 +2,12 @@
 
 ghost use Rattle.std.specs.Prelude.{◌≡◌, ◌⊎◌, ℕ, List};
 ghost use Rattle.sqlite.specs.Recovery.{Image};
-ghost use Rattle.office.specs.Office.{Office, fold};
-ghost use Rattle.office.specs.declared.commands.Command.{Command};
-ghost use Rattle.ledger_files.specs.Migrating.{AreOfVersion};
-ghost use Rattle.ledger_files.specs.Opening.{AreOf};
-ghost use Rattle.bureau_laws.specs.Rounds.{Link, Round, AreLinks, AreKept, AreLeftWhole, AreStillOf};
-ghost use Rattle.bureau_laws.specs.KeptRounds.{kept_rounds, kept_in, left_by};
+ghost use Rattle.office.specs.{Office.{Office, fold}, declared.commands.Command.{Command}};
+ghost use Rattle.ledger_files.specs.{Migrating.{AreOfVersion}, Opening.{AreOf}};
+ghost use Rattle.bureau_laws.specs.{
+  Rounds.{Link, Round, AreLinks, AreKept, AreLeftWhole, AreStillOf},
+  KeptRounds.{kept_rounds, kept_in, left_by},
+};
 
 use ledger::kept_offices_run_whole;
 

@@ -1,7 +1,9 @@
 //! Decks as column binary: two bytes a column.
 
-ghost use Rattle.std.specs.Prelude.{◌≡◌, ◌<◌, ◌≤◌, ◌%◌, ◌∷◌, ◌++◌, ℕ, List, length, IfOk, OnOk, IfSome, IsNone};
-ghost use Rattle.std.specs.List.{flat_map};
+ghost use Rattle.std.specs.{
+  Prelude.{◌≡◌, ◌<◌, ◌≤◌, ◌%◌, ◌∷◌, ◌++◌, ℕ, List, length, IfOk, OnOk, IfSome, IsNone},
+  List.{flat_map},
+};
 ghost use Rattle.cards.specs.Files.{digits_of, hexadecimal};
 ghost use Rattle.card_forms.specs.ColumnBinary.{binary_of, column_bytes, column_digits, digits_behind, punch_file_for};
 

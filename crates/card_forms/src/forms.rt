@@ -1,8 +1,7 @@
 //! The forms of a deck's file.
 
 ghost use Rattle.std.specs.Prelude.{◌≡◌, ◌≢◌, IfSome, IsNone};
-ghost use Rattle.card_forms.specs.Forms.{word_of};
-ghost use Rattle.card_forms.specs.declared.forms.Form.{Form};
+ghost use Rattle.card_forms.specs.{Forms.{word_of}, declared.forms.Form.{Form}};
 
 /// How the cards of a deck are written in a file.
 #[derive(Clone, Copy, Debug, PartialEq, Eq)]

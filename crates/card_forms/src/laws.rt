@@ -1,14 +1,14 @@
 //! The law of the forms.
 
 ghost use Rattle.std.specs.Prelude.{◌≡◌, ℕ, List};
-ghost use Rattle.cards.specs.Decks.{IsDeck};
-ghost use Rattle.cards.specs.declared.Card.{Card};
-ghost use Rattle.cards.specs.Files.{punch_file_of};
-ghost use Rattle.card_forms.specs.ColumnBinary.{binary_of, punch_file_for};
-ghost use Rattle.card_forms.specs.Faults.{IsFirstFault};
-ghost use Rattle.card_forms.specs.Forms.{IsFileOf, file_of};
-ghost use Rattle.card_forms.specs.declared.forms.Form.{Form};
-ghost use Rattle.card_forms.specs.declared.faults.FormFault.{FormFault};
+ghost use Rattle.cards.specs.{Decks.{IsDeck}, declared.Card.{Card}, Files.{punch_file_of}};
+ghost use Rattle.card_forms.specs.{
+  ColumnBinary.{binary_of, punch_file_for},
+  Faults.{IsFirstFault},
+  Forms.{IsFileOf, file_of},
+  declared.forms.Form.{Form},
+  declared.faults.FormFault.{FormFault},
+};
 
 /// The law of the forms: what is written of a deck in a form is a file of that form of that deck,
 /// and no file of a form is one of two decks, or of a deck and at fault. Hence a deck that is

@@ -1,10 +1,8 @@
 //! Reading a deck from a file in one of the forms.
 
 ghost use Rattle.std.specs.Prelude.{◌≡◌, List, IfOk, IfErr};
-ghost use Rattle.cards.specs.Decks.{IsDeck};
-ghost use Rattle.cards.specs.declared.Card.{Card};
-ghost use Rattle.card_forms.specs.Faults.{IsFault, IsRead};
-ghost use Rattle.card_forms.specs.Forms.{IsFileOf, form_told};
+ghost use Rattle.cards.specs.{Decks.{IsDeck}, declared.Card.{Card}};
+ghost use Rattle.card_forms.specs.{Faults.{IsFault, IsRead}, Forms.{IsFileOf, form_told}};
 
 use crate::column_binary::punch_file;
 use crate::faults::{FormFault, OUT_OF_MEMORY, binary_fault, punch_fault, text_fault};

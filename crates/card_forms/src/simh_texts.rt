@@ -1,7 +1,9 @@
 //! Decks as the texts that SimH's IBM 1401 reads and punches.
 
-ghost use Rattle.std.specs.Prelude.{◌≡◌, ◌==◌, ◌<◌, ◌++◌, ◌∷◌, length, position, IfOk, OnOk};
-ghost use Rattle.std.specs.Str.Lines.{lines, strip_carriage_return};
+ghost use Rattle.std.specs.{
+  Prelude.{◌≡◌, ◌==◌, ◌<◌, ◌++◌, ◌∷◌, length, position, IfOk, OnOk},
+  Str.Lines.{lines, strip_carriage_return},
+};
 ghost use Rattle.card_forms.specs.SimhTexts.{deck_line_of, deck_text_of, simh_line_of, simh_text_of};
 
 use crate::signs::{filled, simh_glyph, simh_sign};

@@ -2,8 +2,10 @@
 
 ghost use Rattle.std.specs.Prelude.{◌≡◌, ◌++◌, IfOk, OnOk};
 ghost use Rattle.card_forms.specs.Signs.{is_small};
-ghost use Rattle.card_texts.specs.Changes.{change_of, changes_in, changes_of, folds_any, has_small, tabs_spread};
-ghost use Rattle.card_texts.specs.Columns.{columns_from, filled_up};
+ghost use Rattle.card_texts.specs.{
+  Changes.{change_of, changes_in, changes_of, folds_any, has_small, tabs_spread},
+  Columns.{columns_from, filled_up},
+};
 
 use crate::columns::{COLUMNS, spread};
 use crate::lines::{body, split_line};

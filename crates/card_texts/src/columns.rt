@@ -1,8 +1,10 @@
 //! The columns of a card that a line fills.
 
 ghost use Rattle.std.specs.Prelude.{◌≡◌, ◌<◌, ◌≤◌, ◌+◌, max, ◌++◌, ◌∷◌, [], length, vec_len, OnOk};
-ghost use Rattle.card_texts.specs.Faults.{is_bare};
-ghost use Rattle.card_texts.specs.Columns.{behind, behind_tab, columns_from, columns_of, filled_up, is_spread, kept_of};
+ghost use Rattle.card_texts.specs.{
+  Faults.{is_bare},
+  Columns.{behind, behind_tab, columns_from, columns_of, filled_up, is_spread, kept_of},
+};
 
 use crate::rules::Rules;
 use std::alloc::AllocError;

@@ -1,8 +1,10 @@
 //! What is wrong with a line.
 
 ghost use Rattle.std.specs.Prelude.{◌≡◌, ◌<◌, ◌∷◌, ◌++◌, slice_index_or, OnOk};
-ghost use Rattle.card_texts.specs.Signs.{is_glyph};
-ghost use Rattle.card_texts.specs.Faults.{faults_within, four_bytes, error_within, is_inside, is_past, is_told, met_behind, nothing_met, goes_on, told_of};
+ghost use Rattle.card_texts.specs.{
+  Signs.{is_glyph},
+  Faults.{faults_within, four_bytes, error_within, is_inside, is_past, is_told, met_behind, nothing_met, goes_on, told_of},
+};
 
 use crate::columns::COLUMNS;
 use crate::faults::{TextError, TextFault};

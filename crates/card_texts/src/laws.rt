@@ -1,12 +1,12 @@
 //! The laws of texts that are taken as decks.
 
 ghost use Rattle.std.specs.Prelude.{◌≡◌, ℕ, List, []};
-ghost use Rattle.cards.specs.Decks.{IsDeck};
-ghost use Rattle.cards.specs.Files.{text_of};
-ghost use Rattle.cards.specs.declared.decks.Card.{Card};
-ghost use Rattle.card_texts.specs.DeckTexts.{IsDeckText, TakesWholeCards, in_glyphs};
-ghost use Rattle.card_texts.specs.Punching.{deck_text_of, faults_of};
-ghost use Rattle.card_texts.specs.declared.rules.Rules.{Rules};
+ghost use Rattle.cards.specs.{Decks.{IsDeck}, Files.{text_of}, declared.decks.Card.{Card}};
+ghost use Rattle.card_texts.specs.{
+  DeckTexts.{IsDeckText, TakesWholeCards, in_glyphs},
+  Punching.{deck_text_of, faults_of},
+  declared.rules.Rules.{Rules},
+};
 
 /// The law of what is punched: a text without faults is taken as a deck's text.
 #[tactic(auto, using(crate::proofs::DeckLaw::punched_is_deck))]

@@ -1,12 +1,16 @@
 //! A text taken as a deck.
 
-ghost use Rattle.std.specs.Prelude.{◌≡◌, ◌≤◌, ◌<◌, ◌+◌, ◌++◌, ◌∷◌, [], ◌==◌, ◌&&◌, true, false, length, IfOk, IfErr, OnOk};
-ghost use Rattle.std.specs.List.{list_all};
-ghost use Rattle.card_texts.specs.Columns.{blank, filled_up};
-ghost use Rattle.card_texts.specs.DeckTexts.{IsDeckText};
-ghost use Rattle.card_texts.specs.Faults.{faults_within};
-ghost use Rattle.card_texts.specs.Punching.{deck_text_of, drops, empty_fault, faults_of, refuses, HasPushed, HasTaken, is_empty_line, IsUnpunched};
-ghost use Rattle.card_texts.specs.declared.punching.Unpunched.TheVariants.{NoMemory};
+ghost use Rattle.std.specs.{
+  Prelude.{◌≡◌, ◌≤◌, ◌<◌, ◌+◌, ◌++◌, ◌∷◌, [], ◌==◌, ◌&&◌, true, false, length, IfOk, IfErr, OnOk},
+  List.{list_all},
+};
+ghost use Rattle.card_texts.specs.{
+  Columns.{blank, filled_up},
+  DeckTexts.{IsDeckText},
+  Faults.{faults_within},
+  Punching.{deck_text_of, drops, empty_fault, faults_of, refuses, HasPushed, HasTaken, is_empty_line, IsUnpunched},
+  declared.punching.Unpunched.TheVariants.{NoMemory},
+};
 
 use crate::columns::fill_up;
 use crate::faults::{TextError, TextFault};

@@ -1,8 +1,10 @@
 //! The cards of a deck whose numbers do not rise.
 
 ghost use Rattle.std.specs.Prelude.{◌≡◌, ◌≤◌, ◌<◌, ◌++◌, ◌∷◌, ◌^◌, IfOk, OnOk, length, decimal, is_some, unwrap_or};
-ghost use Rattle.card_tools.specs.Checking.{is_no_rise, last_of, number_of, number_on, told, told_of};
-ghost use Rattle.card_tools.specs.Numbering.{is_digit};
+ghost use Rattle.card_tools.specs.{
+  Checking.{is_no_rise, last_of, number_of, number_on, told, told_of},
+  Numbering.{is_digit},
+};
 
 use crate::lines::push_glyphs;
 use crate::numbering::number_columns;

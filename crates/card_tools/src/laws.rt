@@ -1,12 +1,13 @@
 //! The laws of numbered decks, of comparisons and of manifests.
 
 ghost use Rattle.std.specs.Prelude.{◌≡◌, ◌≤◌, ◌↔◌, [], ℕ, List};
-ghost use Rattle.cards.specs.Decks.{IsDeck};
-ghost use Rattle.cards.specs.declared.Card.{Card};
-ghost use Rattle.card_tools.specs.Checking.{told};
-ghost use Rattle.card_tools.specs.Comparing.{differing};
-ghost use Rattle.card_tools.specs.Manifests.{IsEntry};
-ghost use Rattle.card_tools.specs.Numbering.{IsNumbered};
+ghost use Rattle.cards.specs.{Decks.{IsDeck}, declared.Card.{Card}};
+ghost use Rattle.card_tools.specs.{
+  Checking.{told},
+  Comparing.{differing},
+  Manifests.{IsEntry},
+  Numbering.{IsNumbered},
+};
 
 /// The law of numbered decks: of a deck that was numbered by a step of at least 1 the check tells
 /// nothing.

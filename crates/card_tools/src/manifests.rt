@@ -1,7 +1,9 @@
 //! Lines of a manifest: a deck's digest, its number of cards, and a name.
 
-ghost use Rattle.std.specs.Prelude.{◌≡◌, ◌≢◌, ◌++◌, ◌∷◌, ◌==◌, ℕ, List, IfOk, IfSome, IsNone, OnOk, position, nat_le, nat_lt, ◌&&◌};
-ghost use Rattle.std.specs.List.{list_all};
+ghost use Rattle.std.specs.{
+  Prelude.{◌≡◌, ◌≢◌, ◌++◌, ◌∷◌, ◌==◌, ℕ, List, IfOk, IfSome, IsNone, OnOk, position, nat_le, nat_lt, ◌&&◌},
+  List.{list_all},
+};
 ghost use Rattle.card_tools.specs.Manifests.{BeginsWithField, HasNoBlank, IsEntry, is_decimal, is_hexadecimal, manifest_line, may_be_digest, may_be_number};
 
 use cards::{Deck, write_text};

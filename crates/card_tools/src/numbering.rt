@@ -1,12 +1,16 @@
 //! Numbers in the columns 73 to 80 of a deck's cards.
 
-ghost use Rattle.std.specs.Prelude.{◌≡◌, ◌≤◌, ◌<◌, ◌⊎◌, ◌++◌, ◌∷◌, [], None, Some, length, take, IfOk, IfErr, OnOk};
-ghost use Rattle.std.specs.List.{list_all};
+ghost use Rattle.std.specs.{
+  Prelude.{◌≡◌, ◌≤◌, ◌<◌, ◌⊎◌, ◌++◌, ◌∷◌, [], None, Some, length, take, IfOk, IfErr, OnOk},
+  List.{list_all},
+};
 ghost use Rattle.cards.specs.Decks.{IsDeck};
 ghost use Rattle.card_forms.specs.Signs.{are_blank};
-ghost use Rattle.card_tools.specs.Lines.{glyphs_of};
-ghost use Rattle.card_tools.specs.Numbering.{IsInTheWay, IsNumbered, IsSequenceFault, MayBeNumbered, KeepsColumns, Spells, SpellsNone, columns_for, digit_character, digits_of, fault_from, fits, has_ident, is_digit, is_free, no_ident, number_columns, numbered, numbered_from, out_of_memory};
-ghost use Rattle.card_tools.specs.declared.numbering.SequenceError.TheVariants.{NoMemory, TooGreat, Held};
+ghost use Rattle.card_tools.specs.{
+  Lines.{glyphs_of},
+  Numbering.{IsInTheWay, IsNumbered, IsSequenceFault, MayBeNumbered, KeepsColumns, Spells, SpellsNone, columns_for, digit_character, digits_of, fault_from, fits, has_ident, is_digit, is_free, no_ident, number_columns, numbered, numbered_from, out_of_memory},
+  declared.numbering.SequenceError.TheVariants.{NoMemory, TooGreat, Held},
+};
 
 use bcd::Code;
 use cards::{Card, Deck};

@@ -1,9 +1,11 @@
 //! Why a card is not added to a deck, and what is wrong with a file of a deck.
 
 ghost use Rattle.std.specs.Prelude.{◌≡◌, ◌≤◌, ◌+◌};
-ghost use Rattle.cards.specs.Decks.{card_columns};
-ghost use Rattle.cards.specs.declared.faults.DeckFault.TheVariants.{NoMemory};
-ghost use Rattle.cards.specs.Numbers.{deck_fault_number, card_error_number};
+ghost use Rattle.cards.specs.{
+  Decks.{card_columns},
+  declared.faults.DeckFault.TheVariants.{NoMemory},
+  Numbers.{deck_fault_number, card_error_number},
+};
 
 use std::alloc::AllocError;
 use thiserror::Error;

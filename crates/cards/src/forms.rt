@@ -1,8 +1,10 @@
 //! The two forms of a card in a file, column by column.
 
 ghost use Rattle.std.specs.Prelude.{◌≡◌, ◌≢◌, ◌<◌, ℕ, List, ◌∷◌, ◌++◌, IfOk, IfErr, OnErr, IfSome, IsNone};
-ghost use Rattle.cards.specs.Faults.{IsCutOff, IsNoDigit, IsNoColumn, IsNoLineFeed, digits_error, column_error};
-ghost use Rattle.cards.specs.Files.{hexadecimal, line_feed, line_length, BeginsWithDigit, BeginsWithColumn};
+ghost use Rattle.cards.specs.{
+  Faults.{IsCutOff, IsNoDigit, IsNoColumn, IsNoLineFeed, digits_error, column_error},
+  Files.{hexadecimal, line_feed, line_length, BeginsWithDigit, BeginsWithColumn},
+};
 
 use crate::faults::CardError;
 use bcd::Code;

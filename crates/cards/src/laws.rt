@@ -1,12 +1,14 @@
 //! The law of the two files.
 
 ghost use Rattle.std.specs.Prelude.{◌≡◌, ◌≢◌, ℕ, List};
-ghost use Rattle.cards.specs.Decks.{IsDeck};
-ghost use Rattle.cards.specs.Faults.{IsFirstFault};
-ghost use Rattle.cards.specs.Files.{file_of};
-ghost use Rattle.cards.specs.declared.decks.Card.{Card};
-ghost use Rattle.cards.specs.declared.faults.CardFault.{CardFault};
-ghost use Rattle.cards.specs.declared.forms.Form.{Form};
+ghost use Rattle.cards.specs.{
+  Decks.{IsDeck},
+  Faults.{IsFirstFault},
+  Files.{file_of},
+  declared.decks.Card.{Card},
+  declared.faults.CardFault.{CardFault},
+  declared.forms.Form.{Form},
+};
 
 /// The law of the two files: a file is the file of at most one deck, or has one first fault, and
 /// not both. Hence a deck that was written is read as the same deck.

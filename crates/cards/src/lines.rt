@@ -1,9 +1,11 @@
 //! The line of a card, read whole.
 
 ghost use Rattle.std.specs.Prelude.{◌≡◌, ◌<◌, ◌%◌, ◌∷◌, [], ℕ, length, IfSome, IsNone};
-ghost use Rattle.cards.specs.Decks.{card_columns, IsCard};
-ghost use Rattle.cards.specs.Faults.{IsNoLine};
-ghost use Rattle.cards.specs.Files.{column_at, column_of, line_length, line_of};
+ghost use Rattle.cards.specs.{
+  Decks.{card_columns, IsCard},
+  Faults.{IsNoLine},
+  Files.{column_at, column_of, line_length, line_of},
+};
 
 use crate::decks::{COLUMNS, Card};
 use crate::forms::{Form, LINE_FEED, digit_value};

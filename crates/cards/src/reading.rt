@@ -1,10 +1,12 @@
 //! Reading a deck from its text or its punch file.
 
 ghost use Rattle.std.specs.Prelude.{◌≡◌, ◌≢◌, ◌<◌, ◌+◌, ◌++◌, List, IfOk, IfErr, length};
-ghost use Rattle.cards.specs.Decks.{IsCard, IsDeck};
-ghost use Rattle.cards.specs.Faults.{IsLineFault, IsFault, IsRead};
-ghost use Rattle.cards.specs.Files.{file_of, line_of, text_of, punch_file_of};
-ghost use Rattle.cards.specs.declared.decks.Card.{Card};
+ghost use Rattle.cards.specs.{
+  Decks.{IsCard, IsDeck},
+  Faults.{IsLineFault, IsFault, IsRead},
+  Files.{file_of, line_of, text_of, punch_file_of},
+  declared.decks.Card.{Card},
+};
 
 use crate::decks::{COLUMNS, Card, Deck, LARGEST_DECK};
 use crate::faults::{CardError, CardFault, OUT_OF_MEMORY};

@@ -1,7 +1,6 @@
 //! Writing a deck as its text or its punch file.
 
-ghost use Rattle.std.specs.Prelude.{◌≡◌, ◌≤◌, ◌+◌, ◌++◌, vec_len, IfOk};
-ghost use Rattle.std.specs.Vec.{vec_capacity};
+ghost use Rattle.std.specs.{Prelude.{◌≡◌, ◌≤◌, ◌+◌, ◌++◌, vec_len, IfOk}, Vec.{vec_capacity}};
 ghost use Rattle.cards.specs.Files.{text_of, punch_file_of, file_of, line_of, line_length, column_of, column_length};
 
 use crate::decks::{Card, Deck};

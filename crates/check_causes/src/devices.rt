@@ -1,10 +1,11 @@
 //! Why an operation of the reader, the punch or the printer is stopped.
 
 ghost use Rattle.std.specs.Prelude.{◌≡◌, ◌+◌, ◌<◌, ◌≤◌, ℕ, length, is_some, nat_lt, if◌then◌else◌};
-ghost use Rattle.units.specs.Carriages.{ordered, moved_by, spaced};
-ghost use Rattle.units.specs.Units.{most_lines};
-ghost use Rattle.check_causes.specs.Tested.{passed};
-ghost use Rattle.check_causes.specs.Devices.{card_told, punch_told, line_told, devices_told, order_told, pocket_told};
+ghost use Rattle.units.specs.{Carriages.{ordered, moved_by, spaced}, Units.{most_lines}};
+ghost use Rattle.check_causes.specs.{
+  Tested.{passed},
+  Devices.{card_told, punch_told, line_told, devices_told, order_told, pocket_told},
+};
 
 use crate::causes::Cause;
 use bitflags::Flags;

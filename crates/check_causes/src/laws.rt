@@ -2,10 +2,12 @@
 
 ghost use Rattle.std.specs.Prelude.{◌≡◌, ◌↔◌, Some, None, Err, IsOk};
 ghost use Rattle.machine.specs.Effect.{Works, attempt};
-ghost use Rattle.check_causes.specs.declared.causes.Cause.{Cause};
-ghost use Rattle.check_causes.specs.Words.{check_of};
-ghost use Rattle.check_causes.specs.Causes.{cause};
-ghost use Rattle.check_causes.specs.Sentences.{IsSo};
+ghost use Rattle.check_causes.specs.{
+  declared.causes.Cause.{Cause},
+  Words.{check_of},
+  Causes.{cause},
+  Sentences.{IsSo},
+};
 
 /// The law of checks: a cause is told exactly where a check stops the instruction at register I,
 /// and it is a cause of that check.

@@ -1,10 +1,8 @@
 //! Why an operation is stopped.
 
 ghost use Rattle.std.specs.Prelude.{◌≡◌, ◌≤◌, ◌<◌, true, codes};
-ghost use Rattle.machine.specs.Glyphs.{is_glyph};
-ghost use Rattle.machine.specs.Instructions.{operation_by, modifier_by};
-ghost use Rattle.check_causes.specs.Causes.{operation_told};
-ghost use Rattle.check_causes.specs.Devices.{carriage_told};
+ghost use Rattle.machine.specs.{Glyphs.{is_glyph}, Instructions.{operation_by, modifier_by}};
+ghost use Rattle.check_causes.specs.{Causes.{operation_told}, Devices.{carriage_told}};
 
 use crate::causes::Cause;
 use crate::devices::{test_devices, test_order, test_pocket};

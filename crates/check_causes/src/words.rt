@@ -4,8 +4,10 @@ ghost use Rattle.std.specs.Prelude.{◌≡◌, ◌+◌, ◌-◌, ◌<◌, ◌≤
 ghost use Rattle.core_store.specs.Storage.{codes_from, is_marked, least_mark, largest_size};
 ghost use Rattle.machine.specs.Word.{word_length, ending_in};
 ghost use Rattle.bcd.specs.Table.{glyph_of};
-ghost use Rattle.check_causes.specs.declared.causes.Cause.TheVariants.{NoMark, NoEnd};
-ghost use Rattle.check_causes.specs.Reading.{word_told};
+ghost use Rattle.check_causes.specs.{
+  declared.causes.Cause.TheVariants.{NoMark, NoEnd},
+  Reading.{word_told},
+};
 
 use crate::causes::Cause;
 use bcd::Code;

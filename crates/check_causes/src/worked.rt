@@ -2,10 +2,11 @@
 
 ghost use Rattle.std.specs.Prelude.{◌≡◌, ◌+◌, ◌<◌, ◌≤◌, length};
 ghost use Rattle.core_store.specs.Storage.{codes_from, largest_size};
-ghost use Rattle.machine.specs.Effect.{works_of};
-ghost use Rattle.machine.specs.Instructions.{operation_by};
-ghost use Rattle.check_causes.specs.Worked.{fields_by, fields_worked, if_read, is_on_fields};
-ghost use Rattle.check_causes.specs.Reading.{decoded_told};
+ghost use Rattle.machine.specs.{Effect.{works_of}, Instructions.{operation_by}};
+ghost use Rattle.check_causes.specs.{
+  Worked.{fields_by, fields_worked, if_read, is_on_fields},
+  Reading.{decoded_told},
+};
 ghost use Rattle.units.specs.declared.units.Units.{Units as AllUnits};
 
 use crate::forms::is_instruction;

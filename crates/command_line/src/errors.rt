@@ -1,8 +1,10 @@
 //! The standard error, where what went wrong is printed.
 
-ghost use Rattle.std.specs.Prelude.{◌≡◌, None, Ok, true, false, is_err, length};
-ghost use Rattle.std.specs.Io.{WritesAtMost};
-ghost use Rattle.std.specs.Io.KnownBytes.{Appends, Keeps, WriteAppends};
+ghost use Rattle.std.specs.{
+  Prelude.{◌≡◌, None, Ok, true, false, is_err, length},
+  Io.{WritesAtMost},
+  Io.KnownBytes.{Appends, Keeps, WriteAppends},
+};
 
 use std::io;
 use std::io::Write;

@@ -1,7 +1,6 @@
 //! The faults that are printed instead of a deck's result.
 
-ghost use Rattle.std.specs.Prelude.{◌≡◌, Some};
-ghost use Rattle.std.specs.IoError.{error_kind};
+ghost use Rattle.std.specs.{Prelude.{◌≡◌, Some}, IoError.{error_kind}};
 ghost use Rattle.command_line.specs.Printed.{fault_words, reading_fault, writing_fault};
 
 use cards::{CardFault, DeckFault, OUT_OF_MEMORY};

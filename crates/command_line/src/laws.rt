@@ -2,10 +2,12 @@
 
 ghost use Rattle.std.specs.Prelude.{◌≡◌, ◌↔◌, List, Option, length, true};
 ghost use Rattle.clap.specs.Words.{Row, Text};
-ghost use Rattle.command_line.specs.Asked.{AreTaken, Asks, HasValues};
-ghost use Rattle.command_line.specs.Programs.{AsksFor, for_help, for_subcommand, is_clear};
-ghost use Rattle.command_line.specs.Subcommands.{bureau, values_of};
-ghost use Rattle.command_line.specs.declared.subcommands.Subcommand.{Subcommand};
+ghost use Rattle.command_line.specs.{
+  Asked.{AreTaken, Asks, HasValues},
+  Programs.{AsksFor, for_help, for_subcommand, is_clear},
+  Subcommands.{bureau, values_of},
+  declared.subcommands.Subcommand.{Subcommand},
+};
 
 /// The law of the arguments: by the table of the subcommands arguments ask for what they say. They
 /// ask for a help in just these arguments (`help`). Where none of them can be read as an option, a

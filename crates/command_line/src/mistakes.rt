@@ -1,9 +1,10 @@
 //! What can be wrong with the arguments of a program of subcommands, and what is told of it.
 
-ghost use Rattle.std.specs.Prelude.{◌≡◌, IfOk, OnOk, option_map};
-ghost use Rattle.std.specs.Io.KnownBytes.{Appends};
-ghost use Rattle.command_line.specs.Mistakes.{complaint_line, mistake_message, mistake_status, misuse_line, option_line, subcommand_line, usage_line, usage_of};
-ghost use Rattle.command_line.specs.Misuses.{misuse_as};
+ghost use Rattle.std.specs.{Prelude.{◌≡◌, IfOk, OnOk, option_map}, Io.KnownBytes.{Appends}};
+ghost use Rattle.command_line.specs.{
+  Mistakes.{complaint_line, mistake_message, mistake_status, misuse_line, option_line, subcommand_line, usage_line, usage_of},
+  Misuses.{misuse_as},
+};
 
 use crate::faults::Fault;
 use crate::misuses::Misuse;

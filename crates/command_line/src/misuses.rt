@@ -1,8 +1,10 @@
 //! What is wrong with the arguments after a subcommand's name.
 
 ghost use Rattle.std.specs.Prelude.{◌≡◌, IfErr, IfOk};
-ghost use Rattle.command_line.specs.Misuses.{arguments_as, at_end, misuse, misuse_as, place_as};
-ghost use Rattle.command_line.specs.Plain.{texts};
+ghost use Rattle.command_line.specs.{
+  Misuses.{arguments_as, at_end, misuse, misuse_as, place_as},
+  Plain.{texts},
+};
 
 use crate::places::Place;
 use crate::plain::first_argument;

@@ -1,8 +1,10 @@
 //! Arguments that are no options.
 
 ghost use Rattle.std.specs.Prelude.{◌≡◌, ◌∷◌, [], find, option_map, IfSome, IfNone};
-ghost use Rattle.command_line.specs.Plain.{is_odd, is_plain, texts};
-ghost use Rattle.command_line.specs.Programs.{has_dashes, is_clear, program_as};
+ghost use Rattle.command_line.specs.{
+  Plain.{is_odd, is_plain, texts},
+  Programs.{has_dashes, is_clear, program_as},
+};
 
 use crate::programs::{Program, subcommand_named};
 

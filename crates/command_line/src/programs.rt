@@ -1,16 +1,22 @@
 //! Programs as tables of subcommands, and what arguments ask for by them.
 
-ghost use Rattle.std.specs.Prelude.{◌≡◌, ◌≢◌, ◌∷◌, ◌⊎◌, [], true, false, IfErr, IfNone, IfOk, IfSome, List, find, fold, map, option_map};
-ghost use Rattle.std.specs.List.{list_any};
-ghost use Rattle.std.specs.Str.{bytes_eq};
-ghost use Rattle.clap.specs.Words.{Row, app_of, fault_of, is_simple_and_free, subcommand_of, subcommand_rows_of};
-ghost use Rattle.clap.specs.Simple.{is_simple};
-ghost use Rattle.command_line.specs.Misuses.{arguments_as};
-ghost use Rattle.command_line.specs.Near.{is_near};
-ghost use Rattle.command_line.specs.Plain.{texts};
-ghost use Rattle.command_line.specs.Programs.{AsksFor, AsksInPlace, HasSubcommand, IsHelpArgument, IsMisread, Wish, arguments_named, command, has_help, has_options, is_help, near_subcommand, program_as, subcommand_named, stray_option, usage_begun, usage_named, wish_as};
-ghost use Rattle.command_line.specs.declared.mistakes.Mistake.TheVariants.{Memory};
-ghost use Rattle.command_line.specs.Tables.{is_option, with_subcommand_named};
+ghost use Rattle.std.specs.{
+  Prelude.{◌≡◌, ◌≢◌, ◌∷◌, ◌⊎◌, [], true, false, IfErr, IfNone, IfOk, IfSome, List, find, fold, map, option_map},
+  List.{list_any},
+  Str.{bytes_eq},
+};
+ghost use Rattle.clap.specs.{
+  Words.{Row, app_of, fault_of, is_simple_and_free, subcommand_of, subcommand_rows_of},
+  Simple.{is_simple},
+};
+ghost use Rattle.command_line.specs.{
+  Misuses.{arguments_as},
+  Near.{is_near},
+  Plain.{texts},
+  Programs.{AsksFor, AsksInPlace, HasSubcommand, IsHelpArgument, IsMisread, Wish, arguments_named, command, has_help, has_options, is_help, near_subcommand, program_as, subcommand_named, stray_option, usage_begun, usage_named, wish_as},
+  declared.mistakes.Mistake.TheVariants.{Memory},
+  Tables.{is_option, with_subcommand_named},
+};
 
 use crate::arguments::Found;
 use crate::mistakes::Mistake;

@@ -1,7 +1,6 @@
 //! How the program ends.
 
-ghost use Rattle.std.specs.Prelude.{◌≡◌, IfOk, IfErr};
-ghost use Rattle.std.specs.Process.{exit_status};
+ghost use Rattle.std.specs.{Prelude.{◌≡◌, IfOk, IfErr}, Process.{exit_status}};
 ghost use Rattle.command_line.specs.Printed.{status_code};
 
 use std::io;

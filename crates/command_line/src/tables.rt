@@ -1,11 +1,15 @@
 //! Commands of clap that are made from subcommands, and what clap finds in arguments by them.
 
 ghost use Rattle.std.specs.Prelude.{◌≡◌, ◌≢◌, ◌⊎◌, [], true, false, IfOk, IfErr, map};
-ghost use Rattle.clap.specs.Words.{app_of, fault_of, is_simple_and_free, rule_of, subcommand_of, subcommand_rows_of};
-ghost use Rattle.clap.specs.Simple.{is_simple};
-ghost use Rattle.command_line.specs.Plain.{texts};
-ghost use Rattle.command_line.specs.Tables.{named, subcommand_app, rule_for, with_subcommand_named, IsLocal};
-ghost use Rattle.command_line.specs.declared.tables.Unread.TheVariants as unread;
+ghost use Rattle.clap.specs.{
+  Words.{app_of, fault_of, is_simple_and_free, rule_of, subcommand_of, subcommand_rows_of},
+  Simple.{is_simple},
+};
+ghost use Rattle.command_line.specs.{
+  Plain.{texts},
+  Tables.{named, subcommand_app, rule_for, with_subcommand_named, IsLocal},
+  declared.tables.Unread.TheVariants as unread,
+};
 
 use clap::error::ErrorKind;
 use clap::{Arg, ArgAction, ArgMatches, Command};

@@ -2,15 +2,17 @@
 
 ghost use Rattle.std.specs.Prelude.{◌≡◌, ◌↔◌, ◌⊎◌, ◌∷◌, [], true, false, Option, IfOk, IfErr, Ok, unwrap_or};
 ghost use Rattle.clap.specs.Words.{first_of};
-ghost use Rattle.command_line.specs.Arguments.{given};
-ghost use Rattle.command_line.specs.Asked.{IsHelp, values_found};
-ghost use Rattle.command_line.specs.Plain.{texts};
-ghost use Rattle.command_line.specs.Programs.{AsksFor, AsksInPlace, IsMisread, IsVersion, Wish, is_clear, wish_as};
-ghost use Rattle.command_line.specs.Subcommands.{bureau};
-ghost use Rattle.command_line.specs.Tasks.{IsMistake, IsSubcommandMistake, IsServeMistake, IsValueMistake, Wants, WantsSubcommand};
-ghost use Rattle.command_line.specs.declared.mistakes.Mistake.TheVariants.{Memory};
-ghost use Rattle.command_line.specs.declared.subcommands.Subcommand.{Subcommand};
-ghost use Rattle.command_line.specs.declared.tasks.Task.{Task};
+ghost use Rattle.command_line.specs.{
+  Arguments.{given},
+  Asked.{IsHelp, values_found},
+  Plain.{texts},
+  Programs.{AsksFor, AsksInPlace, IsMisread, IsVersion, Wish, is_clear, wish_as},
+  Subcommands.{bureau},
+  Tasks.{IsMistake, IsSubcommandMistake, IsServeMistake, IsValueMistake, Wants, WantsSubcommand},
+  declared.mistakes.Mistake.TheVariants.{Memory},
+  declared.subcommands.Subcommand.{Subcommand},
+  declared.tasks.Task.{Task},
+};
 
 use crate::arguments::Found;
 use crate::mistakes::Mistake;

@@ -1,9 +1,10 @@
 //! Printing on the second writer, and the help.
 
-ghost use Rattle.std.specs.Prelude.{◌≡◌, ◌∷◌, [], ◌++◌, IfOk, OnOk};
-ghost use Rattle.std.specs.Io.KnownBytes.{Appends};
-ghost use Rattle.command_line.specs.Asked.{page_of};
-ghost use Rattle.command_line.specs.Printed.{IsTextShown, fault_words, version_text};
+ghost use Rattle.std.specs.{Prelude.{◌≡◌, ◌∷◌, [], ◌++◌, IfOk, OnOk}, Io.KnownBytes.{Appends}};
+ghost use Rattle.command_line.specs.{
+  Asked.{page_of},
+  Printed.{IsTextShown, fault_words, version_text},
+};
 
 use crate::faults::Fault;
 use crate::help::{VERSION, page};

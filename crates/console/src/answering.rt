@@ -3,9 +3,11 @@
 ghost use Rattle.std.specs.Prelude.{◌≡◌, ◌++◌, codes, map, IfOk, OnOk};
 ghost use Rattle.units.specs.Listing.{rendered};
 ghost use Rattle.machine.specs.Run.{lines_of};
-ghost use Rattle.console.specs.Answers.{Answers, action_shown, done, dump_shown, next, printed, question_shown};
-ghost use Rattle.console.specs.Shown.{cards_shown};
-ghost use Rattle.console.specs.SessionStates.{HasCome};
+ghost use Rattle.console.specs.{
+  Answers.{Answers, action_shown, done, dump_shown, next, printed, question_shown},
+  Shown.{cards_shown},
+  SessionStates.{HasCome},
+};
 
 use crate::commands::{Action, Command, Question};
 use crate::sessions::Session;

@@ -1,13 +1,17 @@
 //! How far a machine goes.
 
-ghost use Rattle.std.specs.Prelude.{◌≡◌, ◌==◌, ◌+◌, ◌≤◌, ◌<◌, ◌++◌, ◌^◌, length, option_copied, IfOk, OnOk};
-ghost use Rattle.std.specs.List.{list_any};
+ghost use Rattle.std.specs.{
+  Prelude.{◌≡◌, ◌==◌, ◌+◌, ◌≤◌, ◌<◌, ◌++◌, ◌^◌, length, option_copied, IfOk, OnOk},
+  List.{list_any},
+};
 ghost use Rattle.machine.specs.Run.{after, attempts};
 ghost use Rattle.units.specs.declared.profiles.Profile.TheVariants.{Selecting};
 ghost use Rattle.machine.specs.Run.{is_running, loaded};
-ghost use Rattle.console.specs.Goes.{goes_on_from, has_changed, stands_at, watched_cell, went};
-ghost use Rattle.console.specs.Shown.{attempts_shown};
-ghost use Rattle.console.specs.SessionStates.{machine_of, pressed};
+ghost use Rattle.console.specs.{
+  Goes.{goes_on_from, has_changed, stands_at, watched_cell, went},
+  Shown.{attempts_shown},
+  SessionStates.{machine_of, pressed},
+};
 
 use crate::starts::Start;
 use crate::watching::{cells_differ, watched_cell};

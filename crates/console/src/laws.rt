@@ -3,14 +3,16 @@
 ghost use Rattle.std.specs.Prelude.{◌≡◌, ◌+◌, ◌≤◌, ℕ, List, [], Option, false};
 ghost use Rattle.machine.specs.Run.{State, after, attempts};
 ghost use Rattle.run_traces.specs.Names.{Named};
-ghost use Rattle.console.specs.Answers.{Rising, going, next, with_stop, without_stop};
-ghost use Rattle.console.specs.Goes.{IsWent, went};
-ghost use Rattle.console.specs.Commands.{is_start};
-ghost use Rattle.console.specs.SessionStates.{HasCome, SessionState, begun, most_made};
-ghost use Rattle.console.specs.Talks.{Talked};
-ghost use Rattle.console.specs.declared.commands.Action.TheVariants.{Back, Go, Step};
-ghost use Rattle.console.specs.declared.commands.Command.{Command};
-ghost use Rattle.console.specs.declared.commands.Command.TheVariants.{Do};
+ghost use Rattle.console.specs.{
+  Answers.{Rising, going, next, with_stop, without_stop},
+  Goes.{IsWent, went},
+  Commands.{is_start},
+  SessionStates.{HasCome, SessionState, begun, most_made},
+  Talks.{Talked},
+  declared.commands.Action.TheVariants.{Back, Go, Step},
+  declared.commands.Command.{Command},
+  declared.commands.Command.TheVariants.{Do},
+};
 
 /// The law of sessions: whatever lines a session is given, its machine is that of its past, which
 /// begins with the machine that the load button left. Without a start it is that machine after as

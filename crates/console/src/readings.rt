@@ -2,8 +2,10 @@
 
 ghost use Rattle.std.specs.Prelude.{◌≡◌, ◌<◌, ℕ, MatchOption, option_copied, IfOk};
 ghost use Rattle.core_store.specs.Storage.{largest_size};
-ghost use Rattle.console.specs.Commands.{address_of};
-ghost use Rattle.console.specs.Readings.{IsCountOf, IsParsedOf, IsPositionOf, IsReadingOf, NamesAddress};
+ghost use Rattle.console.specs.{
+  Commands.{address_of},
+  Readings.{IsCountOf, IsParsedOf, IsPositionOf, IsReadingOf, NamesAddress},
+};
 
 use crate::verbs::Verb;
 use crate::words::{Words, text_of};

@@ -3,12 +3,16 @@
 ghost use Rattle.std.specs.Prelude.{◌≡◌, ◌+◌, ◌-◌, ◌<◌, ◌≤◌, ◌++◌, List, ℕ, None, Some, length, option_copied, IfOk, OnOk};
 ghost use Rattle.machine.specs.Run.{attempts, lines_of, loaded};
 ghost use Rattle.units.specs.declared.profiles.Profile.TheVariants.{Selecting};
-ghost use Rattle.console.specs.Answers.{advanced, back_shown, backed, cleared, end_shown, going, gone, if_inside, is_inside, limit_of, restarted, set_back, start_shown, started_with, stepped, steps_shown, stopped_at, unwatching, watching, with_stop, without_stop};
-ghost use Rattle.console.specs.Goes.{watched_cell, went};
+ghost use Rattle.console.specs.{
+  Answers.{advanced, back_shown, backed, cleared, end_shown, going, gone, if_inside, is_inside, limit_of, restarted, set_back, start_shown, started_with, stepped, steps_shown, stopped_at, unwatching, watching, with_stop, without_stop},
+  Goes.{watched_cell, went},
+};
 ghost use Rattle.machine.specs.Ranges.{IsInRange};
 ghost use Rattle.units.specs.Listing.{IsRising};
-ghost use Rattle.console.specs.Shown.{attempts_shown, field_line, last_shown, stops_line, watched_line, why_line};
-ghost use Rattle.console.specs.SessionStates.{HasCome, SessionState, begun, machine_of, most_made};
+ghost use Rattle.console.specs.{
+  Shown.{attempts_shown, field_line, last_shown, stops_line, watched_line, why_line},
+  SessionStates.{HasCome, SessionState, begun, machine_of, most_made},
+};
 
 use crate::going::{cell_of, go, press, push_attempts, rerun};
 use crate::showing::{

@@ -1,7 +1,9 @@
 //! What is printed of a machine.
 
-ghost use Rattle.std.specs.Prelude.{◌≡◌, ◌+◌, ◌++◌, ◌∷◌, [], ◌<◌, ◌≤◌, decimal, length, Some, OnOk};
-ghost use Rattle.std.specs.List.{flat_map};
+ghost use Rattle.std.specs.{
+  Prelude.{◌≡◌, ◌+◌, ◌++◌, ◌∷◌, [], ◌<◌, ◌≤◌, decimal, length, Some, OnOk},
+  List.{flat_map},
+};
 ghost use Rattle.autocoder.specs.Listing.{position_field};
 ghost use Rattle.machine.specs.Standings.{standing_of, standing_words};
 ghost use Rattle.console.specs.Shown.{changed_line, fault_line, fault_words, field_line, help_text, line_echo, made_words, past_words, place_line, registers_shown, standing_by, stopped_shown, stops_line, watched_line, why_line};

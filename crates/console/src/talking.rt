@@ -1,9 +1,13 @@
 //! A session over a reader and a writer.
 
-ghost use Rattle.std.specs.Prelude.{◌≡◌, ◌<◌, ◌∷◌, [], IfErr, IfNone, IfOk, IfSome, MatchOption, OnErr, length};
-ghost use Rattle.std.specs.Io.KnownBytes.{Consumes, Keeps};
-ghost use Rattle.console.specs.SessionStates.{HasCome};
-ghost use Rattle.console.specs.Talks.{HasEnded, HasGiven, IsFailure, IsRead, IsTalk, IsUnread, PutsSo};
+ghost use Rattle.std.specs.{
+  Prelude.{◌≡◌, ◌<◌, ◌∷◌, [], IfErr, IfNone, IfOk, IfSome, MatchOption, OnErr, length},
+  Io.KnownBytes.{Consumes, Keeps},
+};
+ghost use Rattle.console.specs.{
+  SessionStates.{HasCome},
+  Talks.{HasEnded, HasGiven, IsFailure, IsRead, IsTalk, IsUnread, PutsSo},
+};
 
 use crate::answering::answer_line;
 use crate::sessions::Session;

@@ -23,11 +23,15 @@ mod planes;
 mod registers;
 mod sizes;
 
-ghost use Rattle.std.specs.Prelude.{◌≡◌, ◌+◌, ◌-◌, ◌<◌, ◌≤◌, ℕ, All, List, Bool, true, false, length, replicate, None, IfOk, IfSome, if◌then◌else◌};
-ghost use Rattle.std.specs.Int.{w64, from_le_bytes};
-ghost use Rattle.std.specs.Simd.Lanes.{mask_l};
-ghost use Rattle.core_store.specs.Storage.{blank_cell, blank_storage, cells_ending, code_at, codes_ending, codes_from, is_marked, marks_from, put, put_cells, put_codes, with_mark, greatest_mark, largest_size, least_mark, GreatestMark, LeastMark, Storage, positions_of};
-ghost use Rattle.core_store.specs.Operands.{is_overlapping, near_length};
+ghost use Rattle.std.specs.{
+  Prelude.{◌≡◌, ◌+◌, ◌-◌, ◌<◌, ◌≤◌, ℕ, All, List, Bool, true, false, length, replicate, None, IfOk, IfSome, if◌then◌else◌},
+  Int.{w64, from_le_bytes},
+  Simd.Lanes.{mask_l},
+};
+ghost use Rattle.core_store.specs.{
+  Storage.{blank_cell, blank_storage, cells_ending, code_at, codes_ending, codes_from, is_marked, marks_from, put, put_cells, put_codes, with_mark, greatest_mark, largest_size, least_mark, GreatestMark, LeastMark, Storage, positions_of},
+  Operands.{is_overlapping, near_length},
+};
 
 use bcd::Code;
 pub use checks::Check;

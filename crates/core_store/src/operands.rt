@@ -2,9 +2,11 @@
 
 ghost use Rattle.std.specs.Prelude.{◌≡◌, ◌+◌, ◌<◌, ◌≤◌, ℕ, true, false, length, IsTrue, IfSome, IfErr, OnOk};
 ghost use Rattle.bcd.specs.Table.{zone_of};
-ghost use Rattle.core_store.specs.Storage.{code_at, field_length, largest_size};
-ghost use Rattle.core_store.specs.Operands.{are_inside, is_overlapping, cut_length, is_minus_zone};
-ghost use Rattle.core_store.specs.declared.checks.Check.TheVariants.{Address};
+ghost use Rattle.core_store.specs.{
+  Storage.{code_at, field_length, largest_size},
+  Operands.{are_inside, is_overlapping, cut_length, is_minus_zone},
+  declared.checks.Check.TheVariants.{Address},
+};
 
 use crate::{Check, Core};
 use bcd::Zone;

@@ -1,8 +1,7 @@
 //! The registers.
 
 ghost use Rattle.std.specs.Prelude.{◌≡◌, ◌<◌, ◌≤◌};
-ghost use Rattle.core_store.specs.Storage.{largest_size};
-ghost use Rattle.core_store.specs.Operands.{lowered, lowered_by};
+ghost use Rattle.core_store.specs.{Storage.{largest_size}, Operands.{lowered, lowered_by}};
 
 use crate::LARGEST_SIZE;
 

@@ -1,16 +1,19 @@
 //! The answer to a request.
 
-ghost use Rattle.std.specs.Prelude.{◌≡◌, ◌⊎◌, [], IfSome, IfNone, IsTrue};
-ghost use Rattle.std.specs.Option.{IsSomeAnd};
+ghost use Rattle.std.specs.{Prelude.{◌≡◌, ◌⊎◌, [], IfSome, IfNone, IsTrue}, Option.{IsSomeAnd}};
 ghost use Rattle.ledger_tables.specs.Disks.{StaysClean};
 ghost use Rattle.office.specs.Meters.{RisenAtMost};
-ghost use Rattle.http_messages.specs.Requests.{HasRefusingStatus, IsRefusingStatus};
-ghost use Rattle.http_messages.specs.declared.fault.RequestFault.TheVariants.{NoMemory, ReadFailed};
-ghost use Rattle.http_messages.specs.declared.request.Request.TheVariants as request;
-ghost use Rattle.exchanges.specs.Answers.{AnswersBroken, IsAnswer, IsOfFault, limit_of};
-ghost use Rattle.exchanges.specs.Exchanges.{Comes, ComesInEach, ComesOfBroken, TicksForRead};
-ghost use Rattle.exchanges.specs.Messages.{bytes_in};
-ghost use Rattle.exchanges.specs.Work.{TellsAnswer, TellsRead};
+ghost use Rattle.http_messages.specs.{
+  Requests.{HasRefusingStatus, IsRefusingStatus},
+  declared.fault.RequestFault.TheVariants.{NoMemory, ReadFailed},
+  declared.request.Request.TheVariants as request,
+};
+ghost use Rattle.exchanges.specs.{
+  Answers.{AnswersBroken, IsAnswer, IsOfFault, limit_of},
+  Exchanges.{Comes, ComesInEach, ComesOfBroken, TicksForRead},
+  Messages.{bytes_in},
+  Work.{TellsAnswer, TellsRead},
+};
 ghost use Rattle.ledger.specs.Working.{HasWorked};
 
 use crate::laws::lines_rise;

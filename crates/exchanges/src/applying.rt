@@ -1,10 +1,14 @@
 //! Applying the commands of a script, one after the other.
 
 ghost use Rattle.std.specs.Prelude.{◌≡◌, ◌⊎◌, ◌||◌, IsTrue, length};
-ghost use Rattle.exchanges.specs.Ending.{StopsAtFirst};
-ghost use Rattle.exchanges.specs.Running.{IsCount, RunLeaves, RunStands, RunTicks, Runs};
-ghost use Rattle.ledger_tables.specs.Disks.{StaysClean};
-ghost use Rattle.ledger_tables.specs.declared.faults.Fault.TheVariants.{Store};
+ghost use Rattle.exchanges.specs.{
+  Ending.{StopsAtFirst},
+  Running.{IsCount, RunLeaves, RunStands, RunTicks, Runs},
+};
+ghost use Rattle.ledger_tables.specs.{
+  Disks.{StaysClean},
+  declared.faults.Fault.TheVariants.{Store},
+};
 
 use crate::script_ends::{ScriptEnd, Scripted};
 use crate::steps::{Step, carry_out};

@@ -2,8 +2,10 @@
 
 ghost use Rattle.std.specs.Prelude.{◌≡◌, ◌⊎◌, IsTrue};
 ghost use Rattle.ledger_tables.specs.Disks.{StaysClean};
-ghost use Rattle.exchanges.specs.Exchanges.{Ends, EndsBroken, MayEndWith, TicksForRead};
-ghost use Rattle.exchanges.specs.Work.{TellsExchange};
+ghost use Rattle.exchanges.specs.{
+  Exchanges.{Ends, EndsBroken, MayEndWith, TicksForRead},
+  Work.{TellsExchange},
+};
 ghost use Rattle.ledger.specs.Working.{HasWorked};
 ghost use Rattle.http_messages.specs.declared.fixed.Fault.TheVariants as fault;
 

@@ -2,10 +2,14 @@
 
 ghost use Rattle.std.specs.Prelude.{◌≡◌, ◌⊎◌, IsTrue};
 ghost use Rattle.ledger.specs.Working.{HasWorked};
-ghost use Rattle.exchanges.specs.Ending.{Ends, GivesUp, HasNoReply, IsEndOfBroken, TurnsDown};
-ghost use Rattle.exchanges.specs.Work.{TellsScript};
-ghost use Rattle.ledger_tables.specs.Disks.{StaysClean};
-ghost use Rattle.ledger_tables.specs.declared.faults.Fault.TheVariants.{Store};
+ghost use Rattle.exchanges.specs.{
+  Ending.{Ends, GivesUp, HasNoReply, IsEndOfBroken, TurnsDown},
+  Work.{TellsScript},
+};
+ghost use Rattle.ledger_tables.specs.{
+  Disks.{StaysClean},
+  declared.faults.Fault.TheVariants.{Store},
+};
 
 use crate::applying::apply_all;
 use crate::script_ends::{ScriptEnd, Scripted};

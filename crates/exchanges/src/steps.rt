@@ -5,8 +5,7 @@ ghost use Rattle.office.specs.Office.{attempted, take};
 ghost use Rattle.ledger.specs.Replying.{LeavesEither};
 ghost use Rattle.exchanges.specs.Steps.{IsStep, SendsSome, TicksTo, is_refusal};
 ghost use Rattle.scripts.specs.Replies.{fault_line};
-ghost use Rattle.ledger_tables.specs.Disks.{StaysClean};
-ghost use Rattle.ledger_tables.specs.Faults.{fault_number};
+ghost use Rattle.ledger_tables.specs.{Disks.{StaysClean}, Faults.{fault_number}};
 
 use ledger::{Bureau, Fault};
 use machine::Meter;

@@ -2,8 +2,10 @@
 
 ghost use Rattle.std.specs.Prelude.{◌≡◌, ◌≢◌, IfOk};
 ghost use Rattle.cards.specs.Faults.{out_of_memory};
-ghost use Rattle.http_messages.specs.declared.targets.Target.TheVariants as target;
-ghost use Rattle.http_messages.specs.Asking.{AsksOfJobs, IsAskedBy, IsBadDeck, IsOnJob};
+ghost use Rattle.http_messages.specs.{
+  declared.targets.Target.TheVariants as target,
+  Asking.{AsksOfJobs, IsAskedBy, IsBadDeck, IsOnJob},
+};
 
 use crate::request::Request;
 use crate::targets::Target;

@@ -1,9 +1,11 @@
 //! The header fields of a head by their names.
 
-ghost use Rattle.std.specs.Prelude.{◌≡◌, ◌≤◌, true, All, codes, length, map};
-ghost use Rattle.std.specs.Char.{is_ascii_digit};
-ghost use Rattle.std.specs.List.{list_all};
-ghost use Rattle.std.specs.Str.Parse.{digits_value};
+ghost use Rattle.std.specs.{
+  Prelude.{◌≡◌, ◌≤◌, true, All, codes, length, map},
+  Char.{is_ascii_digit},
+  List.{list_all},
+  Str.Parse.{digits_value},
+};
 ghost use Rattle.httparse.specs.Spans.{IsHeaderWithin, header_bytes};
 ghost use Rattle.http_messages.specs.Fields.{body_length, bytes_or_bad, has_name, length_in, length_of_more, values_of};
 

@@ -1,8 +1,10 @@
 //! Answers that are fixed, and take no memory.
 
 ghost use Rattle.std.specs.Prelude.{◌≡◌};
-ghost use Rattle.http_messages.specs.Fixed.{fault_bytes, fault_number, fault_status, refusing_status};
-ghost use Rattle.http_messages.specs.Replies.{refused_bytes};
+ghost use Rattle.http_messages.specs.{
+  Fixed.{fault_bytes, fault_number, fault_status, refusing_status},
+  Replies.{refused_bytes},
+};
 
 use http::StatusCode;
 

@@ -1,11 +1,12 @@
 //! Heads of requests: how one is read, and its verdict.
 
 ghost use Rattle.std.specs.Prelude.{◌≡◌, ◌≤◌, List, ℕ, IfOk, IfErr, drop, length, take};
-ghost use Rattle.httparse.specs.Grammar.{RequestHead};
-ghost use Rattle.httparse.specs.Spans.{IsRequestAt, IsRequestWithin};
-ghost use Rattle.http_messages.specs.Paths.{paths, routed};
-ghost use Rattle.http_messages.specs.declared.fault.RequestFault.TheVariants.{ReadFailed};
-ghost use Rattle.http_messages.specs.Judging.{IsReadOf, IsVerdictOn, Judges, ReadsHead};
+ghost use Rattle.httparse.specs.{Grammar.{RequestHead}, Spans.{IsRequestAt, IsRequestWithin}};
+ghost use Rattle.http_messages.specs.{
+  Paths.{paths, routed},
+  declared.fault.RequestFault.TheVariants.{ReadFailed},
+  Judging.{IsReadOf, IsVerdictOn, Judges, ReadsHead},
+};
 
 use crate::asking::asked_at;
 use crate::fault::RequestFault;

@@ -4,8 +4,7 @@ ghost use Rattle.std.specs.Prelude.{◌≡◌, ◌++◌, Some, true, ℕ, codes,
 ghost use Rattle.texts.specs.Names.{is_customer};
 ghost use Rattle.office.specs.Queued.{QueuedJob};
 ghost use Rattle.http.specs.StatusCode.{IsStatusCode, reason_phrase};
-ghost use Rattle.http_messages.specs.ReplyBodies.{queued_text};
-ghost use Rattle.http_messages.specs.Replies.{HasPhrase, phrase_of};
+ghost use Rattle.http_messages.specs.{ReplyBodies.{queued_text}, Replies.{HasPhrase, phrase_of}};
 
 /// The law of names: a customer's name is in the queue's body unchanged, between quotation marks.
 pub fn names_stand_as_they_are()

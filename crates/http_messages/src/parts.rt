@@ -1,7 +1,6 @@
 //! The parts of a text between its slashes.
 
-ghost use Rattle.std.specs.Prelude.{◌≡◌};
-ghost use Rattle.std.specs.List.{before_first, after_first};
+ghost use Rattle.std.specs.{Prelude.{◌≡◌}, List.{before_first, after_first}};
 ghost use Rattle.http_messages.specs.Parts.{is_slash, part};
 
 /// The text after its first slash, or nothing.

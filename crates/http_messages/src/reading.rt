@@ -1,7 +1,6 @@
 //! Reading the head of a request.
 
-ghost use Rattle.std.specs.Prelude.{◌≡◌, ◌≤◌, length, take};
-ghost use Rattle.std.specs.Io.KnownBytes.{Consumes, IsAtEnd};
+ghost use Rattle.std.specs.{Prelude.{◌≡◌, ◌≤◌, length, take}, Io.KnownBytes.{Consumes, IsAtEnd}};
 ghost use Rattle.http_messages.specs.Reading.{ComesTo, IsSoFar};
 
 use httparse::spans::{HeaderSpan, RequestSpans, parse_request};

@@ -1,8 +1,10 @@
 //! The body of each reply.
 
 ghost use Rattle.std.specs.Prelude.{◌≡◌, IfOk};
-ghost use Rattle.http_messages.specs.ReplyBodies.{body_of, deck_fault_body, refusal_body};
-ghost use Rattle.http_messages.specs.Replies.{HasLinesInOrder};
+ghost use Rattle.http_messages.specs.{
+  ReplyBodies.{body_of, deck_fault_body, refusal_body},
+  Replies.{HasLinesInOrder},
+};
 
 use crate::values::text_of;
 use crate::{lists, values};

@@ -1,8 +1,7 @@
 //! The bodies of replies as JSON, and their text.
 
 ghost use Rattle.std.specs.Prelude.{◌≡◌, false, IfOk, string_bytes};
-ghost use Rattle.serde_json.specs.View.{view};
-ghost use Rattle.serde_json.specs.Written.{compact_text, has_float};
+ghost use Rattle.serde_json.specs.{View.{view}, Written.{compact_text, has_float}};
 ghost use Rattle.http_messages.specs.Values.{collected_data, deck_fault_data, ran_data, refusal_data, reply_data, summary_data, taken_data};
 
 use cards::CardFault;

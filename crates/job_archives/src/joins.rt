@@ -4,8 +4,10 @@ ghost use Rattle.std.specs.Prelude.{◌≡◌, ◌↔◌, ◌++◌, IsTrue};
 ghost use Rattle.sqlite.specs.Held.{state};
 ghost use Rattle.ledger_tables.specs.Disks.{StaysClean};
 ghost use Rattle.job_checks.specs.Tables.{LeavesLess, LeavesNoMore};
-ghost use Rattle.job_archives.specs.Copies.{Tells};
-ghost use Rattle.job_archives.specs.Joins.{AreBoth, ComparesBoth, ComparesJoin, EitherDiffers, ReadsThree, ReadsThreeOn, ReadsThreeSettled};
+ghost use Rattle.job_archives.specs.{
+  Copies.{Tells},
+  Joins.{AreBoth, ComparesBoth, ComparesJoin, EitherDiffers, ReadsThree, ReadsThreeOn, ReadsThreeSettled},
+};
 
 use crate::comparing::{Compared, both_sound, compare_each};
 use crate::rows::are_same;

@@ -1,13 +1,14 @@
 //! The laws of what an archive's files hold.
 
-ghost use Rattle.std.specs.Borrow.{Bor};
-ghost use Rattle.std.specs.Prelude.{◌≡◌, ◌++◌, ℕ, List, [], true, false};
+ghost use Rattle.std.specs.{Borrow.{Bor}, Prelude.{◌≡◌, ◌++◌, ℕ, List, [], true, false}};
 ghost use Rattle.office.specs.Office.{Entry, Office, own};
 ghost use Rattle.ledger.specs.Standing.{CanBeKept};
-ghost use Rattle.job_archives.specs.Archives.{IsReadBack, archive_of};
-ghost use Rattle.job_archives.specs.Facts.{IsFiled, facts_of};
-ghost use Rattle.job_archives.specs.Parts.{HasNoJobs, IsWholeInOne, is_among, part_of};
-ghost use Rattle.job_archives.specs.declared.customers.Customers.{Customers};
+ghost use Rattle.job_archives.specs.{
+  Archives.{IsReadBack, archive_of},
+  Facts.{IsFiled, facts_of},
+  Parts.{HasNoJobs, IsWholeInOne, is_among, part_of},
+  declared.customers.Customers.{Customers},
+};
 
 use office::commands_keep_jobs;
 

@@ -1,17 +1,15 @@
 //! The list of a bureau's jobs.
 
 ghost use Rattle.std.specs.Prelude.{◌≡◌, ◌≤◌, ◌++◌, decimal, map, option_map, Some, IfOk, IsTrue, OnOk};
-ghost use Rattle.office.specs.Jobs.{Job};
-ghost use Rattle.office.specs.Kept.{kept_of, summary_of};
-ghost use Rattle.office.specs.Office.{Office, job_of};
+ghost use Rattle.office.specs.{Jobs.{Job}, Kept.{kept_of, summary_of}, Office.{Office, job_of}};
 ghost use Rattle.sqlite.specs.Held.{state};
 ghost use Rattle.ledger.specs.Standing.{named};
-ghost use Rattle.ledger_tables.specs.Disks.{StaysClean};
-ghost use Rattle.ledger_tables.specs.Tables.{AreDistinct};
-ghost use Rattle.sqlite.specs.State.{HasCleanDisk};
-ghost use Rattle.sqlite.specs.View.{IsClean};
-ghost use Rattle.job_archives.specs.Lists.{AddsNamed, FindsStill, Leaves, LeavesAlone, Lists, ListsAlone, count_line, is_of, list_text, listed_line};
-ghost use Rattle.job_archives.specs.Names.{HasName, name_row};
+ghost use Rattle.ledger_tables.specs.{Disks.{StaysClean}, Tables.{AreDistinct}};
+ghost use Rattle.sqlite.specs.{State.{HasCleanDisk}, View.{IsClean}};
+ghost use Rattle.job_archives.specs.{
+  Lists.{AddsNamed, FindsStill, Leaves, LeavesAlone, Lists, ListsAlone, count_line, is_of, list_text, listed_line},
+  Names.{HasName, name_row},
+};
 
 use crate::names::{name_in, read_names};
 use job_checks::push_summary;

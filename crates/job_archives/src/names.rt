@@ -1,19 +1,21 @@
 //! The names of a bureau's jobs.
 
-ghost use Rattle.std.specs.Prelude.{◌≡◌, ◌<◌, ◌^◌, ℕ, List, pos, map, true, IfErr, IfOk, IfSome, IsOk, IsSome, IsTrue, OnOk};
-ghost use Rattle.std.specs.Str.{IsUtf8};
+ghost use Rattle.std.specs.{
+  Prelude.{◌≡◌, ◌<◌, ◌^◌, ℕ, List, pos, map, true, IfErr, IfOk, IfSome, IsOk, IsSome, IsTrue, OnOk},
+  Str.{IsUtf8},
+};
 ghost use Rattle.texts.specs.Names.{is_customer, is_number};
 ghost use Rattle.office.specs.Office.{Entry, Office};
-ghost use Rattle.sqlite.specs.Held.{state};
-ghost use Rattle.sqlite.specs.Order.{column};
-ghost use Rattle.sqlite.specs.State.{HasCleanDisk};
-ghost use Rattle.sqlite.specs.declared.types.Value.TheVariants.{Int, Text};
+ghost use Rattle.sqlite.specs.{
+  Held.{state},
+  Order.{column},
+  State.{HasCleanDisk},
+  declared.types.Value.TheVariants.{Int, Text},
+};
 ghost use Rattle.ledger.specs.Standing.{Stands, StandsIn, named};
-ghost use Rattle.ledger_tables.specs.Disks.{StaysClean};
-ghost use Rattle.ledger_tables.specs.Tables.{AreDistinct};
+ghost use Rattle.ledger_tables.specs.{Disks.{StaysClean}, Tables.{AreDistinct}};
 ghost use Rattle.job_checks.specs.Tables.{LeavesLess};
-ghost use Rattle.job_archives.specs.Lists.{Leaves};
-ghost use Rattle.job_archives.specs.Names.{HasName, name_row};
+ghost use Rattle.job_archives.specs.{Lists.{Leaves}, Names.{HasName, name_row}};
 
 use job_checks::{number_at, text_at};
 use ledger_tables::{Fault, fault_of};

@@ -2,8 +2,7 @@
 
 ghost use Rattle.std.specs.Prelude.{◌≡◌, IfOk, option_map, string_bytes};
 ghost use Rattle.office.specs.Office.{Office};
-ghost use Rattle.sqlite.specs.Held.{state};
-ghost use Rattle.sqlite.specs.State.{HasCleanDisk};
+ghost use Rattle.sqlite.specs.{Held.{state}, State.{HasCleanDisk}};
 ghost use Rattle.ledger.specs.Standing.{StandsIn};
 ghost use Rattle.ledger_tables.specs.Disks.{StaysClean};
 ghost use Rattle.job_checks.specs.Tables.{LeavesLess};

@@ -1,8 +1,7 @@
 //! Rows that are compared value by value.
 
 ghost use Rattle.std.specs.Prelude.{◌≡◌, ◌↔◌, IsTrue};
-ghost use Rattle.sqlite_value.specs.Order.{column};
-ghost use Rattle.sqlite_value.specs.Value.{owned};
+ghost use Rattle.sqlite_value.specs.{Order.{column}, Value.{owned}};
 
 use job_checks::value_at;
 use sqlite::Row;

@@ -1,14 +1,14 @@
 //! Running a job again.
 
 ghost use Rattle.std.specs.Prelude.{◌≡◌, ◌<◌, ℕ, [], List, length, take, IfOk, OnOk};
-ghost use Rattle.cards.specs.Decks.{deck_bytes};
-ghost use Rattle.cards.specs.declared.decks.Card.{Card};
-ghost use Rattle.core_store.specs.Storage.{positions_of};
-ghost use Rattle.core_store.specs.declared.sizes.Size.{Size as AnySize};
+ghost use Rattle.cards.specs.{Decks.{deck_bytes}, declared.decks.Card.{Card}};
+ghost use Rattle.core_store.specs.{Storage.{positions_of}, declared.sizes.Size.{Size as AnySize}};
 ghost use Rattle.machine.specs.Run.{State, after, loaded as begun, started};
 ghost use Rattle.office.specs.Jobs.{all_off, resumed};
-ghost use Rattle.job_checks.specs.Again.{GoesThrough, HasResumed, IsLoading, LoadsAs, StartsAtHalts};
-ghost use Rattle.job_checks.specs.Stops.{IfDiffers};
+ghost use Rattle.job_checks.specs.{
+  Again.{GoesThrough, HasResumed, IsLoading, LoadsAs, StartsAtHalts},
+  Stops.{IfDiffers},
+};
 
 use crate::differences::{Difference, Stop};
 use bitflags::Flags;

@@ -1,7 +1,6 @@
 //! Lists of parts that are compared.
 
-ghost use Rattle.std.specs.Prelude.{◌≡◌, ◌↔◌, IfSome, IsNone, IsTrue};
-ghost use Rattle.std.specs.List.{AllByRecursion};
+ghost use Rattle.std.specs.{Prelude.{◌≡◌, ◌↔◌, IfSome, IsNone, IsTrue}, List.{AllByRecursion}};
 ghost use Rattle.job_checks.specs.Schemas.{IsOf};
 
 /// A part of a schema that can be compared with another.

@@ -1,8 +1,7 @@
 //! The values of a row.
 
 ghost use Rattle.std.specs.Prelude.{◌≡◌, ◌<◌, ◌≤◌, ◌^◌, ◌↔◌, ℕ, List, get_or, length, map, pos, IfSome, IsNone, IsUtf8};
-ghost use Rattle.sqlite.specs.Order.{column};
-ghost use Rattle.sqlite.specs.declared.types.Value.TheVariants.{Blob, Int, Text};
+ghost use Rattle.sqlite.specs.{Order.{column}, declared.types.Value.TheVariants.{Blob, Int, Text}};
 ghost use Rattle.sqlite_value.specs.Value.{owned};
 
 use sqlite::Row;

@@ -1,9 +1,11 @@
 //! The check of all tables.
 
 ghost use Rattle.std.specs.Prelude.{◌≡◌, ◌++◌, ◌∷◌, ◌↔◌, [], Result, IfErr, IfOk, IsOkAnd};
-ghost use Rattle.job_checks.specs.Checks.{FindsAlone, HasReported};
-ghost use Rattle.job_checks.specs.Kept.{version_row};
-ghost use Rattle.job_checks.specs.Tables.{LeavesNoMore};
+ghost use Rattle.job_checks.specs.{
+  Checks.{FindsAlone, HasReported},
+  Kept.{version_row},
+  Tables.{LeavesNoMore},
+};
 
 use crate::reports::{JobReport, Report};
 use crate::runs::JobRun;

@@ -1,11 +1,12 @@
 //! The rows of one job, read at once.
 
 ghost use Rattle.std.specs.Prelude.{◌≡◌, [], ◌∷◌, pos, IfOk, IsPermutation};
-ghost use Rattle.sqlite.specs.Held.{state};
-ghost use Rattle.sqlite.specs.State.{HasCleanDisk, Shown};
-ghost use Rattle.sqlite.specs.declared.types.Value.TheVariants.{Int, Text};
-ghost use Rattle.ledger_tables.specs.Disks.{StaysClean};
-ghost use Rattle.ledger_tables.specs.Tables.{cells};
+ghost use Rattle.sqlite.specs.{
+  Held.{state},
+  State.{HasCleanDisk, Shown},
+  declared.types.Value.TheVariants.{Int, Text},
+};
+ghost use Rattle.ledger_tables.specs.{Disks.{StaysClean}, Tables.{cells}};
 ghost use Rattle.job_checks.specs.Tables.{AreRowsOfJob, LeavesLess, Reads, RiseByPlace, rows_of_job, tables_of};
 
 use ledger_tables::{Fault, fault_of};

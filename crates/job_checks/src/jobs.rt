@@ -1,14 +1,18 @@
 //! One job, run again and compared with its rows.
 
 ghost use Rattle.std.specs.Prelude.{◌≡◌, ℕ, ℤ, List, true, Err, IfErr, IfOk, OnErr, OnOk};
-ghost use Rattle.sqlite.specs.Held.{state};
-ghost use Rattle.sqlite.specs.Order.{column};
-ghost use Rattle.sqlite.specs.Tree.{Trees};
-ghost use Rattle.sqlite.specs.declared.types.Value.TheVariants.{Int, Text};
-ghost use Rattle.job_checks.specs.Jobs.{HasRun, HasRunAs, IsFound, IsNameOf, entry_of, row_of};
-ghost use Rattle.job_checks.specs.Outcomes.{IsAsItRan};
-ghost use Rattle.job_checks.specs.Stops.{IfDiffers};
-ghost use Rattle.job_checks.specs.Tables.{LeavesLess, Reads, ReadsOn, tables_of};
+ghost use Rattle.sqlite.specs.{
+  Held.{state},
+  Order.{column},
+  Tree.{Trees},
+  declared.types.Value.TheVariants.{Int, Text},
+};
+ghost use Rattle.job_checks.specs.{
+  Jobs.{HasRun, HasRunAs, IsFound, IsNameOf, entry_of, row_of},
+  Outcomes.{IsAsItRan},
+  Stops.{IfDiffers},
+  Tables.{LeavesLess, Reads, ReadsOn, tables_of},
+};
 ghost use Rattle.ledger_tables.specs.Disks.{StaysClean};
 ghost use Rattle.office.specs.Office.{Entry};
 

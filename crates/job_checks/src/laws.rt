@@ -1,11 +1,15 @@
 //! What a bureau's database gives of its rows by the rules of its schema.
 
 ghost use Rattle.std.specs.Prelude.{◌≡◌, ℕ, List, [], ◌∷◌, drop, pos};
-ghost use Rattle.sqlite.specs.Effect.{Database};
-ghost use Rattle.sqlite.specs.Order.{Row, column};
-ghost use Rattle.sqlite.specs.declared.types.Value.TheVariants.{Int, Text};
-ghost use Rattle.job_checks.specs.Kept.{AreOwned, AreNamedApart};
-ghost use Rattle.job_checks.specs.Tables.{HasRows, WholeTables, rows_of};
+ghost use Rattle.sqlite.specs.{
+  Effect.{Database},
+  Order.{Row, column},
+  declared.types.Value.TheVariants.{Int, Text},
+};
+ghost use Rattle.job_checks.specs.{
+  Kept.{AreOwned, AreNamedApart},
+  Tables.{HasRows, WholeTables, rows_of},
+};
 
 /// The law of owners: in a bureau's database each row of the other tables names a job.
 pub fn rows_name_jobs()

@@ -1,19 +1,25 @@
 //! The rows of a machine that was run again, compared with those of the tables.
 
-ghost use Rattle.std.specs.Prelude.{◌≡◌, ◌<◌, ◌≤◌, ◌++◌, ◌∷◌, ◌^◌, All, List, length, map, Some, IfErr, IfOk, OnErr, OnOk};
-ghost use Rattle.std.specs.Option.{option_to_list};
-ghost use Rattle.core_store.specs.Pages.{cells_of};
-ghost use Rattle.core_store.specs.Storage.{largest_size};
-ghost use Rattle.machine.specs.Ranges.{IsInRange};
-ghost use Rattle.machine.specs.Run.{lines_of};
+ghost use Rattle.std.specs.{
+  Prelude.{◌≡◌, ◌<◌, ◌≤◌, ◌++◌, ◌∷◌, ◌^◌, All, List, length, map, Some, IfErr, IfOk, OnErr, OnOk},
+  Option.{option_to_list},
+};
+ghost use Rattle.core_store.specs.{Pages.{cells_of}, Storage.{largest_size}};
+ghost use Rattle.machine.specs.{Ranges.{IsInRange}, Run.{lines_of}};
 ghost use Rattle.ledger.specs.Standing.{stretch_row as stretch_cells};
-ghost use Rattle.ledger_rows.specs.Columns.{HoldsCharacters, IsLine, line_cells};
-ghost use Rattle.ledger_rows.specs.Pockets.{IsPunched, pocket_cell};
-ghost use Rattle.job_checks.specs.Kept.{rows_of_cards, rows_of_lines, rows_of_pages, rows_of_pockets, rows_of_profile, rows_of_state, rows_of_stretches, HasMachine};
-ghost use Rattle.job_checks.specs.Tables.{rows_of_job, tables_of};
+ghost use Rattle.ledger_rows.specs.{
+  Columns.{HoldsCharacters, IsLine, line_cells},
+  Pockets.{IsPunched, pocket_cell},
+};
+ghost use Rattle.job_checks.specs.{
+  Kept.{rows_of_cards, rows_of_lines, rows_of_pages, rows_of_pockets, rows_of_profile, rows_of_state, rows_of_stretches, HasMachine},
+  Tables.{rows_of_job, tables_of},
+};
 ghost use Rattle.sqlite.specs.Order.{Row as Values};
-ghost use Rattle.ledger_tables.specs.Cells.{unless_blank};
-ghost use Rattle.ledger_tables.specs.Tables.{line_row, page_row, pocket_row, stretch_row};
+ghost use Rattle.ledger_tables.specs.{
+  Cells.{unless_blank},
+  Tables.{line_row, page_row, pocket_row, stretch_row},
+};
 
 use crate::differences::{Difference, Place};
 use crate::following::{pass, pass_none};

@@ -1,8 +1,6 @@
 //! The end of a reading by a connection.
 
-ghost use Rattle.sqlite.specs.Held.{state};
-ghost use Rattle.sqlite.specs.State.{HasCleanDisk};
-ghost use Rattle.sqlite.specs.View.{IsClean};
+ghost use Rattle.sqlite.specs.{Held.{state}, State.{HasCleanDisk}, View.{IsClean}};
 ghost use Rattle.job_checks.specs.Tables.{HandsBack, LeavesNoMore};
 
 use ledger_tables::Fault;

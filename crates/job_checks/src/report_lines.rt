@@ -1,7 +1,9 @@
 //! The lines of a report.
 
-ghost use Rattle.std.specs.Prelude.{◌≡◌, ◌++◌, codes, decimal, flat_map, IfOk, OnOk};
-ghost use Rattle.std.specs.Fmt.{signed_decimal};
+ghost use Rattle.std.specs.{
+  Prelude.{◌≡◌, ◌++◌, codes, decimal, flat_map, IfOk, OnOk},
+  Fmt.{signed_decimal},
+};
 ghost use Rattle.machine.specs.Standings.{standing_words};
 ghost use Rattle.office.specs.Numbers.{refusal_number};
 ghost use Rattle.job_checks.specs.Texts.{apart_words, byte_words, bytes_words, difference_words, found_words, job_line, number_words, outcome_words, place_words, report_text, schema_line, schema_lines, schema_name, schema_words, orphan_line, sum_line, summary_words, table_words, value_words};

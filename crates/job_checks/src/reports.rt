@@ -1,9 +1,11 @@
 //! What the check tells.
 
 ghost use Rattle.std.specs.Prelude.{◌≡◌, ◌↔◌, All, count_by, not, IsTrue};
-ghost use Rattle.job_checks.specs.Outcomes.{IsAsItRan, is_as_it_ran};
-ghost use Rattle.job_checks.specs.Reports.{HasNoDifference, HasNoOtherRows};
-ghost use Rattle.job_checks.specs.Texts.{table_words};
+ghost use Rattle.job_checks.specs.{
+  Outcomes.{IsAsItRan, is_as_it_ran},
+  Reports.{HasNoDifference, HasNoOtherRows},
+  Texts.{table_words},
+};
 
 use crate::differences::Difference;
 use crate::schemas::SchemaDifference;

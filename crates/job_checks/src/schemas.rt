@@ -1,9 +1,7 @@
 //! The schema of a file, compared with a bureau's.
 
-ghost use Rattle.std.specs.Prelude.{◌≡◌, ◌↔◌, [], IfOk, IfSome, IsNone};
-ghost use Rattle.std.specs.List.{AllByRecursion};
-ghost use Rattle.sqlite.specs.Held.{state};
-ghost use Rattle.sqlite.specs.Steps.{over_memory};
+ghost use Rattle.std.specs.{Prelude.{◌≡◌, ◌↔◌, [], IfOk, IfSome, IsNone}, List.{AllByRecursion}};
+ghost use Rattle.sqlite.specs.{Held.{state}, Steps.{over_memory}};
 ghost use Rattle.ledger_tables.specs.Schema.{bureau_schema};
 ghost use Rattle.job_checks.specs.Schemas.{HasNoTerms, IsSame, IsIndexOf, IsTableOf, IsTold, IsViewOf};
 

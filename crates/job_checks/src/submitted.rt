@@ -1,21 +1,20 @@
 //! What a job's rows say that its customer handed in.
 
 ghost use Rattle.std.specs.Prelude.{◌≡◌, ◌<◌, ◌^◌, ℕ, List, pos, Bool, IfErr, IfOk, IfSome, Ok, Some};
-ghost use Rattle.cards.specs.Decks.{IsDeck, deck_bytes};
-ghost use Rattle.cards.specs.declared.decks.Card.{Card};
+ghost use Rattle.cards.specs.{Decks.{IsDeck, deck_bytes}, declared.decks.Card.{Card}};
 ghost use Rattle.core_store.specs.Storage.{positions_of};
 ghost use Rattle.ledger.specs.Standing.{named, stretch_row as stretch_cells};
 ghost use Rattle.office.specs.Numbers.{kind_number};
-ghost use Rattle.job_checks.specs.Jobs.{numbers_of, row_of};
-ghost use Rattle.job_checks.specs.Kept.{rows_of_profile, rows_of_stretches};
-ghost use Rattle.job_checks.specs.Stops.{Gives, IfDiffers};
-ghost use Rattle.job_checks.specs.Tables.{rows_of_job};
+ghost use Rattle.job_checks.specs.{
+  Jobs.{numbers_of, row_of},
+  Kept.{rows_of_profile, rows_of_stretches},
+  Stops.{Gives, IfDiffers},
+  Tables.{rows_of_job},
+};
 ghost use Rattle.ledger_rows.specs.Columns.{truth};
 ghost use Rattle.ledger_tables.specs.Tables.{job_row, stretch_row};
-ghost use Rattle.office.specs.Jobs.{AreStretches, HasSwitches};
-ghost use Rattle.office.specs.Office.{Entry};
-ghost use Rattle.sqlite.specs.Order.{column};
-ghost use Rattle.sqlite.specs.declared.types.Value.TheVariants.{Blob, Int};
+ghost use Rattle.office.specs.{Jobs.{AreStretches, HasSwitches}, Office.{Entry}};
+ghost use Rattle.sqlite.specs.{Order.{column}, declared.types.Value.TheVariants.{Blob, Int}};
 ghost use Rattle.units.specs.Stacked.{Stacked};
 
 use crate::cells::{bytes_at, number_at};

@@ -4,9 +4,11 @@ ghost use Rattle.std.specs.Prelude.{◌≡◌, ◌↔◌, [], IfOk, IsNone, OnOk
 ghost use Rattle.office.specs.Office.{Entry};
 ghost use Rattle.sqlite.specs.Held.{state};
 ghost use Rattle.ledger_tables.specs.Disks.{StaysClean};
-ghost use Rattle.job_checks.specs.Kept.{version_row};
-ghost use Rattle.job_checks.specs.Tables.{LeavesLess, LeavesNoMore, Reads, ReadsAlone, ReadsOn, ReadsSettled};
-ghost use Rattle.job_checks.specs.Walks.{HasTaken, HasWalked};
+ghost use Rattle.job_checks.specs.{
+  Kept.{version_row},
+  Tables.{LeavesLess, LeavesNoMore, Reads, ReadsAlone, ReadsOn, ReadsSettled},
+  Walks.{HasTaken, HasWalked},
+};
 
 use crate::cells::first_other;
 use crate::jobs::run_job;

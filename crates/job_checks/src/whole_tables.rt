@@ -1,10 +1,8 @@
 //! The tables that are read whole: `bureau` and `jobs`.
 
 ghost use Rattle.std.specs.Prelude.{◌≡◌, [], IfOk, IsPermutation, map};
-ghost use Rattle.sqlite.specs.Held.{state};
-ghost use Rattle.sqlite.specs.State.{HasCleanDisk, Shown};
-ghost use Rattle.ledger_tables.specs.Disks.{StaysClean};
-ghost use Rattle.ledger_tables.specs.Tables.{cells};
+ghost use Rattle.sqlite.specs.{Held.{state}, State.{HasCleanDisk, Shown}};
+ghost use Rattle.ledger_tables.specs.{Disks.{StaysClean}, Tables.{cells}};
 ghost use Rattle.job_checks.specs.Tables.{LeavesLess, Reads, version_columns};
 
 use ledger_tables::{Fault, fault_of};

@@ -2,8 +2,7 @@
 
 ghost use Rattle.std.specs.Prelude.{◌≡◌, ◌++◌, codes, length, OnOk};
 ghost use Rattle.cards.specs.Files.{punch_file_of, text_of};
-ghost use Rattle.machine.specs.Reports.{report_of, report_words};
-ghost use Rattle.machine.specs.Run.{lines_of};
+ghost use Rattle.machine.specs.{Reports.{report_of, report_words}, Run.{lines_of}};
 ghost use Rattle.units.specs.Listing.{rendered};
 ghost use Rattle.job_pages.specs.Facts.{counted, deck_fact, end_fact, listing_fact, machine_fact, maker_fact, punched_fact, row_named};
 

@@ -7,8 +7,7 @@ ghost use Rattle.autocoder.specs.Programs.{IsFaultless, IsProgramOf};
 ghost use Rattle.autocoder_listings.specs.Listing.{listing_with_code_for};
 ghost use Rattle.loader.specs.Decks.{runnable_deck};
 ghost use Rattle.machine.specs.Run.{lines_of};
-ghost use Rattle.units.specs.Listing.{rendered};
-ghost use Rattle.units.specs.declared.punch.Punched.{Punched};
+ghost use Rattle.units.specs.{Listing.{rendered}, declared.punch.Punched.{Punched}};
 ghost use Rattle.job_pages.specs.Jobs.{Hinders, IsJobOf, cards_punched, ran};
 
 use crate::pages::JobPageError;

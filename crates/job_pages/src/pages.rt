@@ -7,10 +7,12 @@ ghost use Rattle.autocoder.specs.Programs.{IsFaultless};
 ghost use Rattle.loader.specs.Decks.{runnable_deck};
 ghost use Rattle.machine.specs.Run.{lines_of};
 ghost use Rattle.units.specs.Listing.{rendered};
-ghost use Rattle.job_pages.specs.Facts.{facts};
-ghost use Rattle.job_pages.specs.Jobs.{Hinders, cards_punched};
-ghost use Rattle.job_pages.specs.Pages.{code_shown, page_by, page_of};
-ghost use Rattle.job_pages.specs.declared.pages.JobPageError.TheVariants.{NoMemory};
+ghost use Rattle.job_pages.specs.{
+  Facts.{facts},
+  Jobs.{Hinders, cards_punched},
+  Pages.{code_shown, page_by, page_of},
+  declared.pages.JobPageError.TheVariants.{NoMemory},
+};
 
 use crate::facts::{push_deck, push_end, push_listing, push_machine, push_maker, push_punched};
 use crate::jobs::{Job, listing_of, punched_by};

@@ -1,18 +1,23 @@
 //! The bureau: each command in one transaction, whose commit is the last call of the store.
 
 ghost use Rattle.std.specs.Prelude.{◌≡◌, ◌⊎◌, [], true, false, None, Err, IsTrue, IfOk, IfErr, OnOk, IsErrAnd, IsErrOf};
-ghost use Rattle.sqlite.specs.Held.{state};
-ghost use Rattle.sqlite.specs.State.{HasCleanDisk};
-ghost use Rattle.ledger_tables.specs.Disks.{StaysClean};
-ghost use Rattle.ledger_tables.specs.Making.{is_taken};
-ghost use Rattle.ledger_tables.specs.Schema.{no_schema};
-ghost use Rattle.ledger_tables.specs.Versions.{IsAnswer};
-ghost use Rattle.office.specs.Meters.{RisenAtMost};
-ghost use Rattle.office.specs.Office.{early_refusal, served, take, attempted_by, attempted, limit_of};
-ghost use Rattle.ledger.specs.Adopting.{StandsStill, IsNoFaultOfTables, HasOwnVersion, IsTold, MakesNothing, handed, verdict};
-ghost use Rattle.ledger.specs.Replying.{Replies, Rises, RisesAtMost, KeepsOffice, FailsToRead, LeavesEither, MakesOffice, LeavesNone};
-ghost use Rattle.ledger.specs.Serving.{OnlyReads};
-ghost use Rattle.ledger.specs.Standing.{Stands, IsAsBefore};
+ghost use Rattle.sqlite.specs.{Held.{state}, State.{HasCleanDisk}};
+ghost use Rattle.ledger_tables.specs.{
+  Disks.{StaysClean},
+  Making.{is_taken},
+  Schema.{no_schema},
+  Versions.{IsAnswer},
+};
+ghost use Rattle.office.specs.{
+  Meters.{RisenAtMost},
+  Office.{early_refusal, served, take, attempted_by, attempted, limit_of},
+};
+ghost use Rattle.ledger.specs.{
+  Adopting.{StandsStill, IsNoFaultOfTables, HasOwnVersion, IsTold, MakesNothing, handed, verdict},
+  Replying.{Replies, Rises, RisesAtMost, KeepsOffice, FailsToRead, LeavesEither, MakesOffice, LeavesNone},
+  Serving.{OnlyReads},
+  Standing.{Stands, IsAsBefore},
+};
 
 use crate::serving::{early_refusal, serve};
 use ledger_tables::{Fault, OpenFault, OpenTables};

@@ -3,9 +3,11 @@
 ghost use Rattle.std.specs.Prelude.{◌≡◌, true};
 ghost use Rattle.office.specs.Kept.{flag_command, is_query};
 ghost use Rattle.ledger_tables.specs.Steps.{IsOpenStep};
-ghost use Rattle.ledger.specs.Allowed.{IsAllowed};
-ghost use Rattle.ledger.specs.Serving.{with_commanded};
-ghost use Rattle.ledger.specs.Steps.{FindsIn, FindsNoJob, FailsAlone, Serves};
+ghost use Rattle.ledger.specs.{
+  Allowed.{IsAllowed},
+  Serving.{with_commanded},
+  Steps.{FindsIn, FindsNoJob, FailsAlone, Serves},
+};
 
 use crate::saving::note_flags;
 use crate::summaries::find_summary;

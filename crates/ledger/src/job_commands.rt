@@ -3,14 +3,18 @@
 ghost use Rattle.std.specs.Prelude.{◌≡◌, true, Some, OnOk, OnErr};
 ghost use Rattle.core_store.specs.Pages.{cells_of};
 ghost use Rattle.machine.specs.Run.{risen};
-ghost use Rattle.office.specs.Jobs.{Job as KnownJob};
-ghost use Rattle.office.specs.Kept.{attempted_on, drive_command, is_query, limit_of};
-ghost use Rattle.office.specs.Meters.{RisenAtMost};
+ghost use Rattle.office.specs.{
+  Jobs.{Job as KnownJob},
+  Kept.{attempted_on, drive_command, is_query, limit_of},
+  Meters.{RisenAtMost},
+};
 ghost use Rattle.ledger_tables.specs.Steps.{IsStep, IsOpenStep};
-ghost use Rattle.ledger.specs.Earlier.{kept_alone};
-ghost use Rattle.ledger.specs.Saving.{job_in};
-ghost use Rattle.ledger.specs.Serving.{with_commanded, attempted_as};
-ghost use Rattle.ledger.specs.Steps.{FindsNoJob, FailsAlone, Serves, ServesWhere, Ticks, TicksAtMost};
+ghost use Rattle.ledger.specs.{
+  Earlier.{kept_alone},
+  Saving.{job_in},
+  Serving.{with_commanded, attempted_as},
+  Steps.{FindsNoJob, FailsAlone, Serves, ServesWhere, Ticks, TicksAtMost},
+};
 
 use crate::by_summary::command_flags;
 use crate::outputs::{tell_cards, tell_lines};

@@ -3,8 +3,7 @@
 ghost use Rattle.std.specs.Prelude.{◌≡◌};
 ghost use Rattle.office.specs.Office.{Office};
 ghost use Rattle.sqlite.specs.Effect.{Database};
-ghost use Rattle.ledger.specs.Standing.{Rows};
-ghost use Rattle.ledger.specs.WholeRows.{HaveWholeRows};
+ghost use Rattle.ledger.specs.{Standing.{Rows}, WholeRows.{HaveWholeRows}};
 
 use office::offices_run_whole;
 

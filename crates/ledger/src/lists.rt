@@ -1,14 +1,16 @@
 //! The lists of jobs: a customer's, and the queue.
 
-ghost use Rattle.std.specs.Prelude.{◌≡◌, ◌++◌, [], map};
-ghost use Rattle.std.specs.List.{AllByRecursion};
-ghost use Rattle.office.specs.Office.{Entry, Office, jobs_listed, queue_listed};
-ghost use Rattle.office.specs.declared.replies.Reply.{Reply};
-ghost use Rattle.ledger_tables.specs.Listed.{name_row, queued_name};
-ghost use Rattle.ledger_tables.specs.Steps.{IsStep, IsOpenStep};
-ghost use Rattle.ledger.specs.Listed.{AreListable, IsHis, HasLine, HasLines, IsIts, IsQueued, AreQueued, with_jobs_told, with_queue_told};
-ghost use Rattle.ledger.specs.Standing.{named};
-ghost use Rattle.ledger.specs.Steps.{FindsIn, FailsWhere, Serves};
+ghost use Rattle.std.specs.{Prelude.{◌≡◌, ◌++◌, [], map}, List.{AllByRecursion}};
+ghost use Rattle.office.specs.{
+  Office.{Entry, Office, jobs_listed, queue_listed},
+  declared.replies.Reply.{Reply},
+};
+ghost use Rattle.ledger_tables.specs.{Listed.{name_row, queued_name}, Steps.{IsStep, IsOpenStep}};
+ghost use Rattle.ledger.specs.{
+  Listed.{AreListable, IsHis, HasLine, HasLines, IsIts, IsQueued, AreQueued, with_jobs_told, with_queue_told},
+  Standing.{named},
+  Steps.{FindsIn, FailsWhere, Serves},
+};
 
 use crate::reading::stored;
 use crate::summaries::find_standing;

@@ -1,11 +1,11 @@
 //! Raising the tables of an earlier version to this program's, in one transaction.
 
 ghost use Rattle.std.specs.Prelude.{IfErr, IfOk, IsErrOf};
-ghost use Rattle.ledger_tables.specs.Disks.{StaysClean};
-ghost use Rattle.ledger_tables.specs.Steps.{IsStep};
-ghost use Rattle.ledger_tables.specs.Versions.{IsNotOld};
-ghost use Rattle.ledger.specs.Migrating.{AddsPages, AddsNext, AddsPagesOf, AddsAllPages, EndsFirst, EndsThird, RaisesFrom, FindsVersion, RaisesFound, KnowsFault, TellsVersion, IsRaised, IsKeptOf, LeavesEitherVersion, LeavesUntouched, IsNoFaultOfVersion, HasVersion, IsAnswerOf, IsToldOfVersion};
-ghost use Rattle.ledger.specs.Older.{FirstRows, RowsOf, SecondRows, ThirdRows};
+ghost use Rattle.ledger_tables.specs.{Disks.{StaysClean}, Steps.{IsStep}, Versions.{IsNotOld}};
+ghost use Rattle.ledger.specs.{
+  Migrating.{AddsPages, AddsNext, AddsPagesOf, AddsAllPages, EndsFirst, EndsThird, RaisesFrom, FindsVersion, RaisesFound, KnowsFault, TellsVersion, IsRaised, IsKeptOf, LeavesEitherVersion, LeavesUntouched, IsNoFaultOfVersion, HasVersion, IsAnswerOf, IsToldOfVersion},
+  Older.{FirstRows, RowsOf, SecondRows, ThirdRows},
+};
 
 use crate::page_saving::insert_pages;
 use crate::reading::{stored, told};

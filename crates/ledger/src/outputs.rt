@@ -1,19 +1,23 @@
 //! What a job has made, read from its rows without its machine.
 
 ghost use Rattle.std.specs.Prelude.{◌≡◌, ◌≢◌, List, All, map, length, IfOk, IsErrOf};
-ghost use Rattle.office.specs.Jobs.{Job as KnownJob};
-ghost use Rattle.office.specs.declared.commands.JobCommand.{JobCommand};
-ghost use Rattle.units.specs.Ranges.{HasPrinted};
-ghost use Rattle.units.specs.declared.printer.Line.{Line};
-ghost use Rattle.units.specs.declared.punch.Punched.{Punched};
-ghost use Rattle.ledger_rows.specs.Columns.{line_cells, IsLine};
-ghost use Rattle.ledger_rows.specs.Pockets.{pocket_rows_of, punched_bytes, IsPunched};
-ghost use Rattle.ledger_tables.specs.Named.{ArePockets};
-ghost use Rattle.ledger_tables.specs.Steps.{IsOpenStep};
-ghost use Rattle.ledger.specs.Found.{HasCards, HasCarriageAt, HasLines, printed_with};
-ghost use Rattle.ledger.specs.Saving.{job_in};
-ghost use Rattle.ledger.specs.Serving.{with_commanded};
-ghost use Rattle.ledger.specs.Steps.{FindsIn, FailsAlone, FailsWith, Serves};
+ghost use Rattle.office.specs.{Jobs.{Job as KnownJob}, declared.commands.JobCommand.{JobCommand}};
+ghost use Rattle.units.specs.{
+  Ranges.{HasPrinted},
+  declared.printer.Line.{Line},
+  declared.punch.Punched.{Punched},
+};
+ghost use Rattle.ledger_rows.specs.{
+  Columns.{line_cells, IsLine},
+  Pockets.{pocket_rows_of, punched_bytes, IsPunched},
+};
+ghost use Rattle.ledger_tables.specs.{Named.{ArePockets}, Steps.{IsOpenStep}};
+ghost use Rattle.ledger.specs.{
+  Found.{HasCards, HasCarriageAt, HasLines, printed_with},
+  Saving.{job_in},
+  Serving.{with_commanded},
+  Steps.{FindsIn, FailsAlone, FailsWith, Serves},
+};
 
 use crate::reading::{stored, told};
 use crate::summaries::find_progress;

@@ -1,12 +1,13 @@
 //! Writing the pages of a job's storage.
 
 ghost use Rattle.std.specs.Prelude.{◌≡◌, Some, length, IfOk, ⊤};
-ghost use Rattle.core_store.specs.Pages.{cells_of};
-ghost use Rattle.core_store.specs.Storage.{blank_storage};
+ghost use Rattle.core_store.specs.{Pages.{cells_of}, Storage.{blank_storage}};
 ghost use Rattle.machine.specs.Ranges.{HasSize};
-ghost use Rattle.ledger_tables.specs.Named.{with_page_of};
-ghost use Rattle.ledger_tables.specs.Cells.{unless_blank};
-ghost use Rattle.ledger_tables.specs.Steps.{ChangesAny, IsStep};
+ghost use Rattle.ledger_tables.specs.{
+  Named.{with_page_of},
+  Cells.{unless_blank},
+  Steps.{ChangesAny, IsStep},
+};
 ghost use Rattle.ledger.specs.Saving.{HasNoPages, HasPages, with_storage};
 
 use core_store::{Core, PlaneCore, Size, changed_pages};

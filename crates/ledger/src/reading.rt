@@ -4,21 +4,24 @@
 ghost use Rattle.std.specs.Prelude.{◌≡◌, ◌≢◌, ℕ, List, All, map, Some, None, Ok, IsErr, IsErrOf, IsSome, IfOk, IfErr, IfSome, OnOk};
 ghost use Rattle.cards.specs.Decks.{deck_bytes, IsDeck};
 ghost use Rattle.core_store.specs.Storage.{positions_of};
-ghost use Rattle.machine.specs.Earlier.{without_outputs};
-ghost use Rattle.machine.specs.Ranges.{IsInRange};
-ghost use Rattle.machine.specs.Run.{State};
-ghost use Rattle.office.specs.Jobs.{Job as KnownJob, picture, HasSwitches};
-ghost use Rattle.office.specs.Kept.{IsJobInRange};
-ghost use Rattle.office.specs.declared.stretches.Stretch.{Stretch};
-ghost use Rattle.ledger_rows.specs.Columns.{HoldsCharacters};
-ghost use Rattle.ledger_rows.specs.Pictures.{IsPictured};
-ghost use Rattle.ledger_tables.specs.Listed.{loaded_row};
-ghost use Rattle.ledger_tables.specs.Named.{of_job};
-ghost use Rattle.ledger_tables.specs.Steps.{Finds, IsOpenStep};
-ghost use Rattle.ledger.specs.Found.{IsMediaOf, IsFoundAs, IsHandedAs, CanBeOfJob, HasStretches, HasMachine, HasMachineWith, HasKept, HasPunch, BeganWith};
-ghost use Rattle.ledger.specs.Saving.{job_in};
-ghost use Rattle.ledger.specs.Standing.{job_cells, stretch_row, CanBeKept};
-ghost use Rattle.ledger.specs.Steps.{FindsIn, FailsAlone, FailsWith};
+ghost use Rattle.machine.specs.{Earlier.{without_outputs}, Ranges.{IsInRange}, Run.{State}};
+ghost use Rattle.office.specs.{
+  Jobs.{Job as KnownJob, picture, HasSwitches},
+  Kept.{IsJobInRange},
+  declared.stretches.Stretch.{Stretch},
+};
+ghost use Rattle.ledger_rows.specs.{Columns.{HoldsCharacters}, Pictures.{IsPictured}};
+ghost use Rattle.ledger_tables.specs.{
+  Listed.{loaded_row},
+  Named.{of_job},
+  Steps.{Finds, IsOpenStep},
+};
+ghost use Rattle.ledger.specs.{
+  Found.{IsMediaOf, IsFoundAs, IsHandedAs, CanBeOfJob, HasStretches, HasMachine, HasMachineWith, HasKept, HasPunch, BeganWith},
+  Saving.{job_in},
+  Standing.{job_cells, stretch_row, CanBeKept},
+  Steps.{FindsIn, FailsAlone, FailsWith},
+};
 
 use core_store::{Core, Size};
 use ledger_rows::{Media, read_deck, read_picture, read_punch, read_switches, read_truth};

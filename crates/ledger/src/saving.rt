@@ -3,20 +3,27 @@
 ghost use Rattle.std.specs.Prelude.{◌≡◌, ◌≤◌, ◌+◌, ◌++◌, ◌<◌, ◌-◌, ℕ, All, List, get_or, length, IfOk, OnOk};
 ghost use Rattle.cards.specs.Decks.{IsDeck};
 ghost use Rattle.machine.specs.Ranges.{IsInRange};
-ghost use Rattle.office.specs.Jobs.{Job as KnownJob};
-ghost use Rattle.office.specs.Kept.{drive_command};
-ghost use Rattle.office.specs.declared.commands.JobCommand.TheVariants as command;
-ghost use Rattle.units.specs.declared.printer.Line.{Line};
-ghost use Rattle.units.specs.declared.punch.Punched.{Punched};
-ghost use Rattle.units.specs.declared.switches.Switches.{Switches};
-ghost use Rattle.units.specs.Units.{made_in_all};
+ghost use Rattle.office.specs.{
+  Jobs.{Job as KnownJob},
+  Kept.{drive_command},
+  declared.commands.JobCommand.TheVariants as command,
+};
+ghost use Rattle.units.specs.{
+  declared.printer.Line.{Line},
+  declared.punch.Punched.{Punched},
+  declared.switches.Switches.{Switches},
+  Units.{made_in_all},
+};
 ghost use Rattle.core_store.specs.Pages.{cells_of};
-ghost use Rattle.ledger_rows.specs.Columns.{HoldsCharacters, IsLine};
-ghost use Rattle.ledger_rows.specs.Pockets.{IsPunched};
-ghost use Rattle.ledger_tables.specs.Named.{HasNoJob, HasNoPocket, HasNoProfile, HasNoState, HasState};
-ghost use Rattle.ledger_tables.specs.Steps.{Changes, IsStep};
-ghost use Rattle.ledger.specs.Saving.{job_in, HasCardRows, with_all_cards, HasPocketRows, with_card_pocket, with_all_pockets, with_choice, HasLineRows, with_all_lines, HasEarlier, with_made, HasFewerGranted, HasOneLess, with_all_stretches, with_running, with_machine, with_selection, with_progress, with_begun, HasRows, HasNoMachine, HasNotStarted, new_cells, with_handed, IsAfter, IsAfterStorage, with_after, with_flagged, IsFreeName, IsTakenAs, with_new};
-ghost use Rattle.ledger.specs.Steps.{Saves};
+ghost use Rattle.ledger_rows.specs.{Columns.{HoldsCharacters, IsLine}, Pockets.{IsPunched}};
+ghost use Rattle.ledger_tables.specs.{
+  Named.{HasNoJob, HasNoPocket, HasNoProfile, HasNoState, HasState},
+  Steps.{Changes, IsStep},
+};
+ghost use Rattle.ledger.specs.{
+  Saving.{job_in, HasCardRows, with_all_cards, HasPocketRows, with_card_pocket, with_all_pockets, with_choice, HasLineRows, with_all_lines, HasEarlier, with_made, HasFewerGranted, HasOneLess, with_all_stretches, with_running, with_machine, with_selection, with_progress, with_begun, HasRows, HasNoMachine, HasNotStarted, new_cells, with_handed, IsAfter, IsAfterStorage, with_after, with_flagged, IsFreeName, IsTakenAs, with_new},
+  Steps.{Saves},
+};
 
 use crate::page_saving::{insert_pages, save_pages};
 use cards::Deck;

@@ -1,11 +1,12 @@
 //! Commands inside a transaction, and those that are refused before it.
 
 ghost use Rattle.std.specs.Prelude.{◌≡◌, None};
-ghost use Rattle.office.specs.Meters.{RisenAtMost};
-ghost use Rattle.office.specs.Office.{name_refusal, value_refusal, customer_refusal, early_refusal, served, attempted_by, limit_of};
+ghost use Rattle.office.specs.{
+  Meters.{RisenAtMost},
+  Office.{name_refusal, value_refusal, customer_refusal, early_refusal, served, attempted_by, limit_of},
+};
 ghost use Rattle.ledger_tables.specs.Steps.{IsOpenStep};
-ghost use Rattle.ledger.specs.Serving.{OnlyReads};
-ghost use Rattle.ledger.specs.Steps.{FailsWhere, Serves, Ticks, TicksAtMost};
+ghost use Rattle.ledger.specs.{Serving.{OnlyReads}, Steps.{FailsWhere, Serves, Ticks, TicksAtMost}};
 
 use crate::job_commands::command_job;
 use crate::lists::{list_jobs, list_queue};

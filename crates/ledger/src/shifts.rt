@@ -1,12 +1,15 @@
 //! Applying a list of commands.
 
-ghost use Rattle.std.specs.Prelude.{◌≡◌, ◌<◌, ◌+◌, ◌⊎◌, Err, Some, None, IsTrue, OnOk, IsErrOf, length, vec_len};
-ghost use Rattle.std.specs.Vec.{vec_capacity};
+ghost use Rattle.std.specs.{
+  Prelude.{◌≡◌, ◌<◌, ◌+◌, ◌⊎◌, Err, Some, None, IsTrue, OnOk, IsErrOf, length, vec_len},
+  Vec.{vec_capacity},
+};
 ghost use Rattle.ledger_tables.specs.Disks.{StaysClean};
-ghost use Rattle.office.specs.Meters.{RisenAtMost};
-ghost use Rattle.office.specs.Office.{take, attempted, limit_of};
-ghost use Rattle.ledger.specs.Replying.{Replies, Rises, RisesAtMost, KeepsOffice, LeavesEither};
-ghost use Rattle.ledger.specs.Shifting.{Acknowledges, StandsAfter, LeavesBeginning, TicksWithin, given, limit_of_all};
+ghost use Rattle.office.specs.{Meters.{RisenAtMost}, Office.{take, attempted, limit_of}};
+ghost use Rattle.ledger.specs.{
+  Replying.{Replies, Rises, RisesAtMost, KeepsOffice, LeavesEither},
+  Shifting.{Acknowledges, StandsAfter, LeavesBeginning, TicksWithin, given, limit_of_all},
+};
 
 use crate::bureau::Bureau;
 use crate::laws::kept_offices_run_whole;

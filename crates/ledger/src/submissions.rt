@@ -2,14 +2,18 @@
 
 ghost use Rattle.std.specs.Prelude.{◌≡◌, length, Ok, Err, IfOk, IfErr, IsErrOf, IsTrue};
 ghost use Rattle.cards.specs.Decks.{IsDeck};
-ghost use Rattle.office.specs.Jobs.{Job as KnownJob};
-ghost use Rattle.office.specs.Office.{has_most_jobs, is_same_kind, is_of, repeated};
-ghost use Rattle.office.specs.declared.commands.Kind.{Kind};
+ghost use Rattle.office.specs.{
+  Jobs.{Job as KnownJob},
+  Office.{has_most_jobs, is_same_kind, is_of, repeated},
+  declared.commands.Kind.{Kind},
+};
 ghost use Rattle.ledger_tables.specs.Steps.{IsStep, IsOpenStep};
-ghost use Rattle.ledger.specs.Found.{IsFirst};
-ghost use Rattle.ledger.specs.Saving.{IsFreeName, IsTakenAs};
-ghost use Rattle.ledger.specs.Serving.{with_added, with_taken, with_submitted};
-ghost use Rattle.ledger.specs.Standing.{CanBeKept, job_cells};
+ghost use Rattle.ledger.specs.{
+  Found.{IsFirst},
+  Saving.{IsFreeName, IsTakenAs},
+  Serving.{with_added, with_taken, with_submitted},
+  Standing.{CanBeKept, job_cells},
+};
 ghost use Rattle.office.specs.Numbers.{kind_number};
 ghost use Rattle.ledger.specs.Steps.{FindsIn, FailsAlone, FailsWith, Serves, ServesWhere};
 

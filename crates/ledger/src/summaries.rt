@@ -3,12 +3,13 @@
 
 ghost use Rattle.std.specs.Prelude.{◌≡◌, ◌≢◌, []};
 ghost use Rattle.office.specs.Jobs.{Job as KnownJob};
-ghost use Rattle.ledger_tables.specs.Named.{of_job};
-ghost use Rattle.ledger_tables.specs.Steps.{Finds, IsOpenStep};
-ghost use Rattle.ledger.specs.Found.{HasProgress, HasStanding, HasGranted, HasSummary};
-ghost use Rattle.ledger.specs.Saving.{job_in};
-ghost use Rattle.ledger.specs.Standing.{job_cells};
-ghost use Rattle.ledger.specs.Steps.{FindsIn, FailsWith};
+ghost use Rattle.ledger_tables.specs.{Named.{of_job}, Steps.{Finds, IsOpenStep}};
+ghost use Rattle.ledger.specs.{
+  Found.{HasProgress, HasStanding, HasGranted, HasSummary},
+  Saving.{job_in},
+  Standing.{job_cells},
+  Steps.{FindsIn, FailsWith},
+};
 
 use crate::reading::{find_stretches, stored};
 use ledger_rows::{Progress, read_progress, read_truth};

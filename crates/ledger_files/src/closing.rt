@@ -1,21 +1,25 @@
 //! Closing a bureau's file, or a connection to it.
 
 ghost use Rattle.std.specs.Prelude.{◌≤◌, ℕ, IsTrue, IfOk, IfErr};
-ghost use Rattle.sqlite.specs.FileStore.{recovers, view};
-ghost use Rattle.sqlite.specs.Files.{file_state};
-ghost use Rattle.sqlite.specs.Held.{state};
-ghost use Rattle.sqlite.specs.Recovery.{Image};
-ghost use Rattle.sqlite.specs.State.{HasCleanDisk};
-ghost use Rattle.sqlite.specs.Tree.{Trees};
-ghost use Rattle.sqlite.specs.View.{IsClean, doubt};
-ghost use Rattle.sqlite.specs.WalFiles.{outcomes};
+ghost use Rattle.sqlite.specs.{
+  FileStore.{recovers, view},
+  Files.{file_state},
+  Held.{state},
+  Recovery.{Image},
+  State.{HasCleanDisk},
+  Tree.{Trees},
+  View.{IsClean, doubt},
+  WalFiles.{outcomes},
+};
 ghost use Rattle.sqlite_wal.specs.Reads.{AreClean};
 ghost use Rattle.office.specs.Office.{Office};
 ghost use Rattle.ledger.specs.Standing.{LeftAs, Stands};
 ghost use Rattle.ledger_tables.specs.Versions.{IsKnown};
-ghost use Rattle.ledger_files.specs.Closing.{HindersClosing, StandsAlone};
-ghost use Rattle.ledger_files.specs.Migrating.{IsMigrated, IsMigration};
-ghost use Rattle.ledger_files.specs.Rounds.{MayLeaveClosed};
+ghost use Rattle.ledger_files.specs.{
+  Closing.{HindersClosing, StandsAlone},
+  Migrating.{IsMigrated, IsMigration},
+  Rounds.{MayLeaveClosed},
+};
 
 use crate::closed::Closed;
 use crate::opening::store_fault_of;

@@ -1,15 +1,19 @@
 //! Opening the files at a path as a database, unless their log is damaged.
 
 ghost use Rattle.std.specs.Prelude.{◌≡◌, None, IfErr, IfOk, IfSome, IsTrue};
-ghost use Rattle.sqlite.specs.Files.{IsOpened, file_state, image_of};
-ghost use Rattle.sqlite.specs.Recovery.{Image};
-ghost use Rattle.sqlite.specs.Start.{FindsIn};
-ghost use Rattle.sqlite.specs.State.{HasCleanDisk};
-ghost use Rattle.sqlite.specs.WalFiles.{image_at};
+ghost use Rattle.sqlite.specs.{
+  Files.{IsOpened, file_state, image_of},
+  Recovery.{Image},
+  Start.{FindsIn},
+  State.{HasCleanDisk},
+  WalFiles.{image_at},
+};
 ghost use Rattle.sqlite_std_file.specs.File.{IsFresh, file_is_usable};
-ghost use Rattle.ledger_files.specs.Connecting.{AreAsFound, IsUnconnected, look_error};
-ghost use Rattle.ledger_files.specs.Damage.{IsDamaged};
-ghost use Rattle.ledger_files.specs.Opening.{IsOutOfReach};
+ghost use Rattle.ledger_files.specs.{
+  Connecting.{AreAsFound, IsUnconnected, look_error},
+  Damage.{IsDamaged},
+  Opening.{IsOutOfReach},
+};
 
 use crate::damage::find_damage;
 use sqlite::{Connection, Error, ErrorCode, FileFrom, FileStore, Files, Leftover, Options, Start};

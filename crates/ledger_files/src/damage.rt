@@ -7,11 +7,13 @@
 
 ghost use Rattle.std.specs.Prelude.{min, ◌≡◌, ◌≢◌, ◌⊎◌, ◌+◌, ◌-◌, ◌/◌, ◌^◌, ◌<◌, ◌≤◌, ◌↔◌, ℕ, length, slice_index, IsTrue, IfErr, IfOk, IfSome, MatchOption};
 ghost use Rattle.sqlite_disk.specs.Disk.{CountsFault};
-ghost use Rattle.sqlite_wal.specs.Format.{be32, IsSigned, part};
-ghost use Rattle.sqlite_wal.specs.Outcome.{HasCause, OnlyIf};
-ghost use Rattle.sqlite_wal.specs.PageSize.{bytes_of};
-ghost use Rattle.sqlite_wal.specs.Reads.{IsClean, OnlyReads};
-ghost use Rattle.sqlite_wal.specs.Recovery.{frame_at, header};
+ghost use Rattle.sqlite_wal.specs.{
+  Format.{be32, IsSigned, part},
+  Outcome.{HasCause, OnlyIf},
+  PageSize.{bytes_of},
+  Reads.{IsClean, OnlyReads},
+  Recovery.{frame_at, header},
+};
 ghost use Rattle.ledger_files.specs.Damage.{HasGateOpen, HasHeaderBegun, IsDamaged, IsDamagedAs, IsFirstEnd, IsFollowed, IsFull, IsKeptAs, WasKept, frames_in};
 
 use sqlite_disk::Disk;

@@ -1,9 +1,7 @@
 //! Making one new bureau's file of the two whose files are at two paths.
 
 ghost use Rattle.std.specs.Prelude.{IsTrue, OnOk};
-ghost use Rattle.sqlite.specs.Held.{state};
-ghost use Rattle.sqlite.specs.State.{HasCleanDisk};
-ghost use Rattle.sqlite.specs.Tree.{Trees};
+ghost use Rattle.sqlite.specs.{Held.{state}, State.{HasCleanDisk}, Tree.{Trees}};
 
 use crate::copy_faults::CopyFault;
 use crate::kept::Kept;

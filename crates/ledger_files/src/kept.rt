@@ -2,9 +2,11 @@
 
 ghost use Rattle.sqlite.specs.Recovery.{Image};
 ghost use Rattle.ledger_tables.specs.declared.openings.OpenFault.{OpenFault};
-ghost use Rattle.ledger_files.specs.Migrating.{AreNotMigrated, IsMigration};
-ghost use Rattle.ledger_files.specs.Opening.{AreRefused, IsCleanKept};
-ghost use Rattle.ledger_files.specs.Unfinished.{IsCleanRest, IsRefusal, MayLeaveRest};
+ghost use Rattle.ledger_files.specs.{
+  Migrating.{AreNotMigrated, IsMigration},
+  Opening.{AreRefused, IsCleanKept},
+  Unfinished.{IsCleanRest, IsRefusal, MayLeaveRest},
+};
 
 use crate::rounds::leave;
 use sqlite::{Connection, FileStore, Leftover};

@@ -1,10 +1,12 @@
 //! Laws of what a stop leaves of a bureau's files.
 
 ghost use Rattle.std.specs.Prelude.{IsTrue};
-ghost use Rattle.sqlite.specs.FileStore as store;
-ghost use Rattle.sqlite.specs.FileStore.{view};
-ghost use Rattle.sqlite.specs.Recovery.{Image};
-ghost use Rattle.sqlite.specs.View.{IsClean};
+ghost use Rattle.sqlite.specs.{
+  FileStore as store,
+  FileStore.{view},
+  Recovery.{Image},
+  View.{IsClean},
+};
 ghost use Rattle.ledger_files.specs.Damage.{IsDamaged};
 
 use sqlite::FileStore;

@@ -1,9 +1,7 @@
 //! Looking into the bureau whose file is at a path, without changing it.
 
 ghost use Rattle.std.specs.Prelude.{◌≡◌, OnErr, OnOk};
-ghost use Rattle.sqlite.specs.Held.{state};
-ghost use Rattle.sqlite.specs.Tree.{Trees};
-ghost use Rattle.sqlite.specs.View.{IsClean};
+ghost use Rattle.sqlite.specs.{Held.{state}, Tree.{Trees}, View.{IsClean}};
 ghost use Rattle.office.specs.Office.{Office};
 ghost use Rattle.ledger.specs.Standing.{LeftAs, Stands};
 

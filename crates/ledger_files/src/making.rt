@@ -1,13 +1,14 @@
 //! Creating a new bureau's file.
 
 ghost use Rattle.std.specs.Prelude.{◌≡◌, [], IfErr, IfOk};
-ghost use Rattle.sqlite.specs.Files.{file_state};
-ghost use Rattle.sqlite.specs.Held.{state};
-ghost use Rattle.sqlite.specs.State.{HasCleanDisk, IsLive, Opens};
-ghost use Rattle.sqlite.specs.WalFiles.{image_at};
+ghost use Rattle.sqlite.specs.{
+  Files.{file_state},
+  Held.{state},
+  State.{HasCleanDisk, IsLive, Opens},
+  WalFiles.{image_at},
+};
 ghost use Rattle.ledger.specs.Standing.{Stands};
-ghost use Rattle.ledger_tables.specs.Disks.{StaysClean};
-ghost use Rattle.ledger_tables.specs.Versions.{IsKnown};
+ghost use Rattle.ledger_tables.specs.{Disks.{StaysClean}, Versions.{IsKnown}};
 ghost use Rattle.ledger_files.specs.Making.{AreEmpty, IsFirst, IsWithoutTables};
 
 use crate::closed::Closed;

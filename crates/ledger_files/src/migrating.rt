@@ -1,29 +1,37 @@
 //! Raising a bureau's file of an earlier version to this program's version.
 
 ghost use Rattle.std.specs.Prelude.{◌≡◌, ◌≤◌, ℕ, Err, IfErr, IfOk, Ok};
-ghost use Rattle.sqlite.specs.Effect.{Database, IsDatabase};
-ghost use Rattle.sqlite.specs.FileStore.{recovers, view};
-ghost use Rattle.sqlite.specs.Files.{HoldsDatabase, file_state};
-ghost use Rattle.sqlite.specs.Held.{state};
-ghost use Rattle.sqlite.specs.Recovery.{Image};
-ghost use Rattle.sqlite.specs.State.{HasCleanDisk, IsLive, Opens};
-ghost use Rattle.sqlite.specs.Tree.{Trees};
-ghost use Rattle.sqlite.specs.View.{doubt};
-ghost use Rattle.sqlite.specs.WalFiles.{image_at, outcomes};
+ghost use Rattle.sqlite.specs.{
+  Effect.{Database, IsDatabase},
+  FileStore.{recovers, view},
+  Files.{HoldsDatabase, file_state},
+  Held.{state},
+  Recovery.{Image},
+  State.{HasCleanDisk, IsLive, Opens},
+  Tree.{Trees},
+  View.{doubt},
+  WalFiles.{image_at, outcomes},
+};
 ghost use Rattle.sqlite_wal.specs.Reads.{AreClean};
 ghost use Rattle.office.specs.Office.{Office};
-ghost use Rattle.ledger_tables.specs.Disks.{StaysClean};
-ghost use Rattle.ledger_tables.specs.Schema.{own_version};
-ghost use Rattle.ledger_tables.specs.Versions.{IsAnswer, IsNotOld};
-ghost use Rattle.ledger.specs.Migrating.{IsKeptOf, IsNoFaultOfVersion, IsRaised, LeavesEitherVersion, as_opened};
-ghost use Rattle.ledger.specs.Older.{LeftOf, StandsOf};
-ghost use Rattle.ledger.specs.Standing.{Stands};
-ghost use Rattle.ledger_files.specs.Closing.{StandsAlone};
-ghost use Rattle.ledger_files.specs.Damage.{IsDamaged};
-ghost use Rattle.ledger_files.specs.Migrating.{AreNotMigrated, IsMidway, IsMigrated, IsMigration, IsVersionIn, IsVersionOf};
-ghost use Rattle.ledger_files.specs.Opening.{HoldsOnly, IsAnswerFor, IsCleanKept};
-ghost use Rattle.ledger_files.specs.Rounds.{MayLeaveClosed};
-ghost use Rattle.ledger_files.specs.Unfinished.{IsFoundAs, IsUnmigrated, fault_in};
+ghost use Rattle.ledger_tables.specs.{
+  Disks.{StaysClean},
+  Schema.{own_version},
+  Versions.{IsAnswer, IsNotOld},
+};
+ghost use Rattle.ledger.specs.{
+  Migrating.{IsKeptOf, IsNoFaultOfVersion, IsRaised, LeavesEitherVersion, as_opened},
+  Older.{LeftOf, StandsOf},
+  Standing.{Stands},
+};
+ghost use Rattle.ledger_files.specs.{
+  Closing.{StandsAlone},
+  Damage.{IsDamaged},
+  Migrating.{AreNotMigrated, IsMidway, IsMigrated, IsMigration, IsVersionIn, IsVersionOf},
+  Opening.{HoldsOnly, IsAnswerFor, IsCleanKept},
+  Rounds.{MayLeaveClosed},
+  Unfinished.{IsFoundAs, IsUnmigrated, fault_in},
+};
 
 use crate::closed::Closed;
 use crate::closing::close_connection;

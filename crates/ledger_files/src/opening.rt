@@ -1,19 +1,24 @@
 //! Opening a bureau's file.
 
 ghost use Rattle.std.specs.Prelude.{◌≡◌, false, Ok, IfOk, IfErr};
-ghost use Rattle.sqlite.specs.Effect.{Database, IsDatabase};
-ghost use Rattle.sqlite.specs.Held.{state};
-ghost use Rattle.sqlite.specs.Files.{file_state, HoldsDatabase};
-ghost use Rattle.sqlite.specs.State.{HasCleanDisk, Opens, IsLive};
-ghost use Rattle.sqlite.specs.Tree.{Trees};
-ghost use Rattle.sqlite.specs.WalFiles.{image_at};
-ghost use Rattle.ledger_tables.specs.Disks.{StaysClean};
-ghost use Rattle.ledger_tables.specs.Versions.{IsAnswer, IsKnown};
+ghost use Rattle.sqlite.specs.{
+  Effect.{Database, IsDatabase},
+  Held.{state},
+  Files.{file_state, HoldsDatabase},
+  State.{HasCleanDisk, Opens, IsLive},
+  Tree.{Trees},
+  WalFiles.{image_at},
+};
+ghost use Rattle.ledger_tables.specs.{Disks.{StaysClean}, Versions.{IsAnswer, IsKnown}};
 ghost use Rattle.office.specs.Office.{Office};
-ghost use Rattle.ledger.specs.Adopting.{StandsStill, IsNoFaultOfTables, IsTold, handed, verdict};
-ghost use Rattle.ledger.specs.Standing.{LeftAs, Stands};
-ghost use Rattle.ledger_files.specs.Damage.{IsDamaged};
-ghost use Rattle.ledger_files.specs.Opening.{AreOf, AreRefused, HoldsOnly, IsAnswerFor, IsCleanKept, IsToldOpen, kept_of, store_fault};
+ghost use Rattle.ledger.specs.{
+  Adopting.{StandsStill, IsNoFaultOfTables, IsTold, handed, verdict},
+  Standing.{LeftAs, Stands},
+};
+ghost use Rattle.ledger_files.specs.{
+  Damage.{IsDamaged},
+  Opening.{AreOf, AreRefused, HoldsOnly, IsAnswerFor, IsCleanKept, IsToldOpen, kept_of, store_fault},
+};
 
 use crate::connecting::connect;
 use crate::kept::Kept;

@@ -1,9 +1,7 @@
 //! Making a new bureau's file of a part of the bureau whose file is at a path.
 
 ghost use Rattle.std.specs.Prelude.{OnOk};
-ghost use Rattle.sqlite.specs.Held.{state};
-ghost use Rattle.sqlite.specs.State.{HasCleanDisk};
-ghost use Rattle.sqlite.specs.Tree.{Trees};
+ghost use Rattle.sqlite.specs.{Held.{state}, State.{HasCleanDisk}, Tree.{Trees}};
 
 use crate::copy_faults::CopyFault;
 use crate::copying::{Comparison, read_back};

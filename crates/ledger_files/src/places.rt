@@ -1,7 +1,6 @@
 //! Where a bureau's file lies.
 
-ghost use Rattle.std.specs.Prelude.{◌≡◌, IfErr};
-ghost use Rattle.std.specs.IoError.{error_kind};
+ghost use Rattle.std.specs.{Prelude.{◌≡◌, IfErr}, IoError.{error_kind}};
 ghost use Rattle.ledger_tables.specs.Versions.{IsKnown, IsNotOld};
 ghost use Rattle.ledger_files.specs.Places.{AreLocked, BeginsAs, path_fault};
 

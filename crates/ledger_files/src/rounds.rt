@@ -2,24 +2,30 @@
 //! the file is closed.
 
 ghost use Rattle.std.specs.Prelude.{◌≡◌, ◌≤◌, List, Ok, IfOk, IfErr, IsErrAnd, IsTrue};
-ghost use Rattle.sqlite.specs.FileStore as store;
-ghost use Rattle.sqlite.specs.FileStore.{recovers, view};
-ghost use Rattle.sqlite.specs.Files.{HoldsDatabase, file_state};
-ghost use Rattle.sqlite.specs.Recovery.{Image};
-ghost use Rattle.sqlite.specs.State.{HasCleanDisk};
-ghost use Rattle.sqlite.specs.Tree.{Trees};
-ghost use Rattle.sqlite.specs.View.{IsClean, doubt};
-ghost use Rattle.sqlite.specs.WalFiles.{image_at, outcomes};
+ghost use Rattle.sqlite.specs.{
+  FileStore as store,
+  FileStore.{recovers, view},
+  Files.{HoldsDatabase, file_state},
+  Recovery.{Image},
+  State.{HasCleanDisk},
+  Tree.{Trees},
+  View.{IsClean, doubt},
+  WalFiles.{image_at, outcomes},
+};
 ghost use Rattle.sqlite_wal.specs.Reads.{AreClean};
-ghost use Rattle.office.specs.Office.{Office};
-ghost use Rattle.office.specs.declared.commands.Command.{Command};
-ghost use Rattle.office.specs.declared.replies.Reply.{Reply};
+ghost use Rattle.office.specs.{
+  Office.{Office},
+  declared.commands.Command.{Command},
+  declared.replies.Reply.{Reply},
+};
 ghost use Rattle.ledger.specs.Standing.{Stands};
-ghost use Rattle.ledger_files.specs.Closing.{HindersEnding, StandsAlone};
-ghost use Rattle.ledger_files.specs.Migrating.{IsMidway, IsMigration};
-ghost use Rattle.ledger_files.specs.Opening.{AreRefused, IsAnswerFor, IsCleanKept};
-ghost use Rattle.ledger_files.specs.Rounds.{HasDone, HasWorkedFrom, HoldsOneOf, IsLink, MayLeave, MayLeaveClosed};
-ghost use Rattle.ledger_files.specs.Unfinished.{IsUnclosed};
+ghost use Rattle.ledger_files.specs.{
+  Closing.{HindersEnding, StandsAlone},
+  Migrating.{IsMidway, IsMigration},
+  Opening.{AreRefused, IsAnswerFor, IsCleanKept},
+  Rounds.{HasDone, HasWorkedFrom, HoldsOneOf, IsLink, MayLeave, MayLeaveClosed},
+  Unfinished.{IsUnclosed},
+};
 
 use crate::closed::Closed;
 use crate::closing::close;

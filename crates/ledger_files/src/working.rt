@@ -2,15 +2,15 @@
 
 ghost use Rattle.std.specs.Prelude.{◌≡◌, ℕ, List, Option, IfOk, IfErr};
 ghost use Rattle.ledger_tables.specs.Disks.{StaysClean};
-ghost use Rattle.sqlite.specs.Recovery.{Image};
-ghost use Rattle.sqlite.specs.WalFiles.{image_at};
-ghost use Rattle.office.specs.declared.commands.Command.{Command};
-ghost use Rattle.office.specs.declared.replies.Reply.{Reply};
+ghost use Rattle.sqlite.specs.{Recovery.{Image}, WalFiles.{image_at}};
+ghost use Rattle.office.specs.{declared.commands.Command.{Command}, declared.replies.Reply.{Reply}};
 ghost use Rattle.ledger.specs.Working.{HasWorked};
-ghost use Rattle.ledger_files.specs.Migrating.{AreNotMigrated, IsMigration};
-ghost use Rattle.ledger_files.specs.Opening.{AreRefused, IsCleanKept};
-ghost use Rattle.ledger_files.specs.Rounds.{HasDone, IsLink, IsRound, MayLeaveClosed};
-ghost use Rattle.ledger_files.specs.Unfinished.{IsCleanRest, IsLeftBy, IsRefusal, IsUnfinished, MayLeaveRest};
+ghost use Rattle.ledger_files.specs.{
+  Migrating.{AreNotMigrated, IsMigration},
+  Opening.{AreRefused, IsCleanKept},
+  Rounds.{HasDone, IsLink, IsRound, MayLeaveClosed},
+  Unfinished.{IsCleanRest, IsLeftBy, IsRefusal, IsUnfinished, MayLeaveRest},
+};
 
 use crate::closed::Closed;
 use crate::kept::Kept;

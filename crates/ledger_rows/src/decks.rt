@@ -1,8 +1,7 @@
 //! Cards and decks as bytes.
 
 ghost use Rattle.std.specs.Prelude.{◌≡◌, ◌≢◌, ◌++◌, List, ℕ, Some, IfOk, IfSome, IsNone};
-ghost use Rattle.cards.specs.declared.decks.Card.{Card};
-ghost use Rattle.cards.specs.Decks.{IsCard, IsDeck};
+ghost use Rattle.cards.specs.{declared.decks.Card.{Card}, Decks.{IsCard, IsDeck}};
 ghost use Rattle.ledger_rows.specs.Columns.{deck_bytes};
 
 use crate::codes::{read_codes, write_numbers};

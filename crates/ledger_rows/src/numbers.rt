@@ -3,12 +3,14 @@
 ghost use Rattle.std.specs.Prelude.{◌≡◌, ◌<◌, Bool, Option, Some, IfSome};
 ghost use Rattle.core_store.specs.declared.registers.Compared.{Compared};
 ghost use Rattle.machine.specs.declared.standings.Standing.{Standing};
-ghost use Rattle.units.specs.Pockets.{pocket_number};
-ghost use Rattle.units.specs.declared.carriage.Motion.{Motion};
-ghost use Rattle.units.specs.declared.pockets.Pocket.{Pocket};
-ghost use Rattle.units.specs.declared.profiles.Profile.{Profile};
-ghost use Rattle.units.specs.declared.switches.Switches.{Switches};
-ghost use Rattle.units.specs.Switches.{AreSeven};
+ghost use Rattle.units.specs.{
+  Pockets.{pocket_number},
+  declared.carriage.Motion.{Motion},
+  declared.pockets.Pocket.{Pocket},
+  declared.profiles.Profile.{Profile},
+  declared.switches.Switches.{Switches},
+  Switches.{AreSeven},
+};
 ghost use Rattle.ledger_rows.specs.Columns.{truth, compare_number, waiting_number, check_number, standing_number, profile_number};
 
 use bitflags::Flags;

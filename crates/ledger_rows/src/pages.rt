@@ -1,8 +1,7 @@
 //! Pages of storage as rows.
 
 ghost use Rattle.std.specs.Prelude.{◌≡◌, ◌<◌, ◌≤◌, ◌↔◌, All, bytes_eq, length, IsTrue};
-ghost use Rattle.core_store.specs.Pages.{page_count, page_size};
-ghost use Rattle.core_store.specs.Storage.{largest_size};
+ghost use Rattle.core_store.specs.{Pages.{page_count, page_size}, Storage.{largest_size}};
 ghost use Rattle.ledger_tables.specs.Cells.{blank_bytes};
 ghost use Rattle.ledger_rows.specs.Pages.{IsPageOf, page_bytes, with_page, with_pages};
 

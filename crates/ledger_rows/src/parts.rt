@@ -2,9 +2,11 @@
 
 ghost use Rattle.std.specs.Prelude.{◌≡◌, ◌≤◌, ◌+◌, ◌<◌, ℕ, length, None, Some, IfOk, IfSome, IsSome};
 ghost use Rattle.core_store.specs.declared.registers.Registers.{Registers};
-ghost use Rattle.units.specs.declared.carriage.Carriage.{Carriage};
-ghost use Rattle.units.specs.Carriages.{lines_of_form};
-ghost use Rattle.units.specs.declared.units.Units.{Units};
+ghost use Rattle.units.specs.{
+  declared.carriage.Carriage.{Carriage},
+  Carriages.{lines_of_form},
+  declared.units.Units.{Units},
+};
 ghost use Rattle.machine.specs.Ranges.{IsInRange, AreAddresses};
 ghost use Rattle.units.specs.Ranges.{HasRead};
 ghost use Rattle.machine.specs.Run.{State};
@@ -12,9 +14,11 @@ ghost use Rattle.ledger_rows.specs.Columns.{state_row, HoldsCharacters};
 ghost use Rattle.core_store.specs.Storage.{Storage};
 ghost use Rattle.machine.specs.Ranges.{HasSize};
 ghost use Rattle.ledger_tables.specs.Named.{ArePages};
-ghost use Rattle.ledger_rows.specs.Pages.{HasStorage, rows_of};
-ghost use Rattle.ledger_rows.specs.Pictures.{HasState, IsPictured};
-ghost use Rattle.ledger_rows.specs.Rows.{HasRegisters, HasCarriage, HasUnits};
+ghost use Rattle.ledger_rows.specs.{
+  Pages.{HasStorage, rows_of},
+  Pictures.{HasState, IsPictured},
+  Rows.{HasRegisters, HasCarriage, HasUnits},
+};
 
 use crate::numbers::{
     compare_number, read_compare, read_standing, read_truth, read_waiting, standing_number, truth,

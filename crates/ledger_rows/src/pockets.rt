@@ -3,11 +3,15 @@
 ghost use Rattle.std.specs.Prelude.{◌≡◌, ◌≤◌, ◌↔◌, ◌⊎◌, [], All, List, length, map, IfOk, IfSome, IsNone, IsSome, IsTrue, Some};
 ghost use Rattle.cards.specs.Decks.{IsCard};
 ghost use Rattle.ledger_tables.specs.Named.{ArePockets};
-ghost use Rattle.units.specs.Stacked.{Stacked};
-ghost use Rattle.units.specs.declared.pockets.Pocket.{Pocket};
-ghost use Rattle.units.specs.declared.punch.Punched.{Punched};
-ghost use Rattle.ledger_rows.specs.Columns.{profile_row};
-ghost use Rattle.ledger_rows.specs.Pockets.{ArePunched, IsPocketOf, IsPunched, named_pocket, pocket_cell, pocket_rows_of, punched_bytes, with_pocket, with_pockets};
+ghost use Rattle.units.specs.{
+  Stacked.{Stacked},
+  declared.pockets.Pocket.{Pocket},
+  declared.punch.Punched.{Punched},
+};
+ghost use Rattle.ledger_rows.specs.{
+  Columns.{profile_row},
+  Pockets.{ArePunched, IsPocketOf, IsPunched, named_pocket, pocket_cell, pocket_rows_of, punched_bytes, with_pocket, with_pockets},
+};
 
 use crate::decks::read_card;
 use crate::from_cells::{FromCells, read_rows};

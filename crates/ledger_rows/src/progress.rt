@@ -2,10 +2,11 @@
 
 ghost use Rattle.std.specs.Prelude.{◌≡◌, ◌≤◌, Some, ◌↔◌, IfSome, IsTrue};
 ghost use Rattle.units.specs.Units.{most_cards, most_lines};
-ghost use Rattle.machine.specs.Ranges.{IsInRange};
-ghost use Rattle.machine.specs.Run.{State};
-ghost use Rattle.ledger_rows.specs.Columns.{state_row};
-ghost use Rattle.ledger_rows.specs.Progress.{progress_cells, progress_of, IsReached};
+ghost use Rattle.machine.specs.{Ranges.{IsInRange}, Run.{State}};
+ghost use Rattle.ledger_rows.specs.{
+  Columns.{state_row},
+  Progress.{progress_cells, progress_of, IsReached},
+};
 ghost use Rattle.ledger_tables.specs.Listed.{progress_row};
 
 use crate::numbers::read_standing;

@@ -1,12 +1,16 @@
 //! Storage as bytes.
 
 ghost use Rattle.std.specs.Prelude.{◌≡◌, ◌≢◌, ◌+◌, ◌<◌, ◌≤◌, ◌↔◌, length, slice_set, IfOk, IfSome, IsSome, IsNone, IsTrue};
-ghost use Rattle.core_store.specs.Pages.{cells_of};
-ghost use Rattle.core_store.specs.Storage.{Storage, largest_size, positions_of};
-ghost use Rattle.core_store.specs.declared.sizes.Size.{Size};
+ghost use Rattle.core_store.specs.{
+  Pages.{cells_of},
+  Storage.{Storage, largest_size, positions_of},
+  declared.sizes.Size.{Size},
+};
 ghost use Rattle.machine.specs.Ranges.{HasSize};
-ghost use Rattle.ledger_rows.specs.Columns.{byte_of, storage_bytes, HoldsCharacters};
-ghost use Rattle.ledger_rows.specs.Pages.{AreCells, cell_of, with_bytes};
+ghost use Rattle.ledger_rows.specs.{
+  Columns.{byte_of, storage_bytes, HoldsCharacters},
+  Pages.{AreCells, cell_of, with_bytes},
+};
 
 use bcd::Code;
 use core_store::{Core, PlaneCore, Size};

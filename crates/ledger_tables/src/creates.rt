@@ -4,11 +4,13 @@
 //! card. All columns are NOT NULL, and the tables are STRICT.
 
 ghost use Rattle.std.specs.Prelude.{◌≡◌, ℕ, true, false, List, [], ◌∷◌, codes, IfErr, IsTrue, OnOk};
-ghost use Rattle.ledger_tables.specs.Schema.{no_schema, up_to_bureau, up_to_jobs, up_to_stretches, up_to_pictures, up_to_cards, first_schema, up_to_states, raising_schema, new_up_to_profiles, new_up_to_pockets, bureau_schema};
-ghost use Rattle.ledger_tables.specs.Making.{AreMade, Makes, AddsNames, IsStopped, is_taken, table_names};
-ghost use Rattle.ledger_tables.specs.Steps.{Inside, IsStep};
-ghost use Rattle.ledger_tables.specs.Raising.{HasNewStates, HasNewTables};
-ghost use Rattle.ledger_tables.specs.Tables.{ByJob, Holds, HoldsAs, HoldsFirst, Tables, complete, no_rows, paged, pictured, profiled, without_profiles};
+ghost use Rattle.ledger_tables.specs.{
+  Schema.{no_schema, up_to_bureau, up_to_jobs, up_to_stretches, up_to_pictures, up_to_cards, first_schema, up_to_states, raising_schema, new_up_to_profiles, new_up_to_pockets, bureau_schema},
+  Making.{AreMade, Makes, AddsNames, IsStopped, is_taken, table_names},
+  Steps.{Inside, IsStep},
+  Raising.{HasNewStates, HasNewTables},
+  Tables.{ByJob, Holds, HoldsAs, HoldsFirst, Tables, complete, no_rows, paged, pictured, profiled, without_profiles},
+};
 
 use crate::faults::Fault;
 use crate::open_tables::OpenTables;

@@ -1,11 +1,17 @@
 //! Rows of query results, read as values.
 
-ghost use Rattle.std.specs.Prelude.{◌≡◌, ◌≢◌, List, Option, map, IfOk, IfErr, IsErrOf};
-ghost use Rattle.std.specs.Option.{option_to_list};
-ghost use Rattle.sqlite.specs.Order.{Row as Values};
-ghost use Rattle.sqlite.specs.declared.error.ErrorCode.TheVariants.{OutOfMemory};
-ghost use Rattle.ledger_tables.specs.Reading.{AreReadable, CanRead};
-ghost use Rattle.ledger_tables.specs.Shown.{shown_job, shown_loaded, shown_name, shown_queued, shown_stretch, shown_state, shown_progress, shown_page, shown_storage, shown_card, shown_line, shown_profile, shown_pocket};
+ghost use Rattle.std.specs.{
+  Prelude.{◌≡◌, ◌≢◌, List, Option, map, IfOk, IfErr, IsErrOf},
+  Option.{option_to_list},
+};
+ghost use Rattle.sqlite.specs.{
+  Order.{Row as Values},
+  declared.error.ErrorCode.TheVariants.{OutOfMemory},
+};
+ghost use Rattle.ledger_tables.specs.{
+  Reading.{AreReadable, CanRead},
+  Shown.{shown_job, shown_loaded, shown_name, shown_queued, shown_stretch, shown_state, shown_progress, shown_page, shown_storage, shown_card, shown_line, shown_profile, shown_pocket},
+};
 
 use crate::faults::{Fault, fault_of};
 use crate::rows::{

@@ -1,8 +1,10 @@
 //! The statements on the pages of storages.
 
 ghost use Rattle.std.specs.Prelude.{None, Some, ⊤};
-ghost use Rattle.ledger_tables.specs.Named.{of_job, HasNoPage, with_page_of, ArePages, HaveNumbers};
-ghost use Rattle.ledger_tables.specs.Steps.{ChangesAny, FailsOnly, Finds, IsOpenStep, IsStep};
+ghost use Rattle.ledger_tables.specs.{
+  Named.{of_job, HasNoPage, with_page_of, ArePages, HaveNumbers},
+  Steps.{ChangesAny, FailsOnly, Finds, IsOpenStep, IsStep},
+};
 
 use crate::faults::Fault;
 use crate::open_tables::OpenTables;

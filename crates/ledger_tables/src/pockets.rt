@@ -1,7 +1,9 @@
 //! The statements on the table of pockets.
 
-ghost use Rattle.ledger_tables.specs.Named.{of_job, HasNoPocket, with_pocket_of, ArePockets, HavePocketNumbers};
-ghost use Rattle.ledger_tables.specs.Steps.{Changes, FailsOnly, Finds, IsOpenStep, IsStep};
+ghost use Rattle.ledger_tables.specs.{
+  Named.{of_job, HasNoPocket, with_pocket_of, ArePockets, HavePocketNumbers},
+  Steps.{Changes, FailsOnly, Finds, IsOpenStep, IsStep},
+};
 
 use crate::faults::Fault;
 use crate::open_tables::OpenTables;

@@ -7,10 +7,12 @@
 
 ghost use Rattle.std.specs.Prelude.{◌≡◌, ℕ, IfOk, IsTrue, List, OnOk};
 ghost use Rattle.sqlite.specs.State.{IsUnchanged};
-ghost use Rattle.ledger_tables.specs.Raising.{HasNewTables, all_names, storage_of, with_plain_profiles, without_blank_pages};
-ghost use Rattle.ledger_tables.specs.Schema.{own_version};
-ghost use Rattle.ledger_tables.specs.Steps.{Inside, IsOpenStep, IsStep};
-ghost use Rattle.ledger_tables.specs.Tables.{ByJob, HoldsAs, HoldsFirst, Tables, complete, paged, pictured, without_pages, without_profiles};
+ghost use Rattle.ledger_tables.specs.{
+  Raising.{HasNewTables, all_names, storage_of, with_plain_profiles, without_blank_pages},
+  Schema.{own_version},
+  Steps.{Inside, IsOpenStep, IsStep},
+  Tables.{ByJob, HoldsAs, HoldsFirst, Tables, complete, paged, pictured, without_pages, without_profiles},
+};
 
 use crate::faults::Fault;
 use crate::open_tables::OpenTables;

@@ -4,8 +4,10 @@ ghost use Rattle.std.specs.Prelude.{◌≡◌, ◌+◌, ◌<◌, ◌≤◌, [], 
 ghost use Rattle.core_store.specs.Storage.{largest_size};
 ghost use Rattle.cards.specs.Decks.{card_columns};
 ghost use Rattle.addresses.specs.Digits.{code_of};
-ghost use Rattle.loader.specs.Glyphs.{is_glyph, are_glyphs};
-ghost use Rattle.loader.specs.Cards.{text, padded, card_of, instruction};
+ghost use Rattle.loader.specs.{
+  Glyphs.{is_glyph, are_glyphs},
+  Cards.{text, padded, card_of, instruction},
+};
 
 use addresses::encode;
 use bcd::Code;

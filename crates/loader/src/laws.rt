@@ -2,18 +2,23 @@
 
 ghost use Rattle.std.specs.Prelude.{◌≡◌, ◌++◌, ◌+◌, ◌*◌, ◌≤◌, ℕ, List, length, take, flat_map};
 ghost use Rattle.cards.specs.declared.decks.Card.{Card};
-ghost use Rattle.core_store.specs.Storage.{positions_of};
-ghost use Rattle.core_store.specs.declared.sizes.Size.{Size};
+ghost use Rattle.core_store.specs.{Storage.{positions_of}, declared.sizes.Size.{Size}};
 ghost use Rattle.autocoder_layout.specs.declared.cells.Cell.{Cell};
 ghost use Rattle.machine.specs.Run.{after, loaded};
-ghost use Rattle.units.specs.declared.profiles.Profile.{Profile};
-ghost use Rattle.units.specs.declared.switches.Switches.{Switches};
-ghost use Rattle.autocoder.specs.Loadable.{IsLoadable};
-ghost use Rattle.autocoder.specs.Programs.{IsFaultless, image_for, size_for, start_for};
-ghost use Rattle.loader.specs.Stretches.{IsSplit, stretches_of};
-ghost use Rattle.loader.specs.Cards.{loading_cards};
-ghost use Rattle.loader.specs.Decks.{loading_cards_of};
-ghost use Rattle.loader.specs.Loading.{at_the_start, instructions_to_load, IsBetweenCards};
+ghost use Rattle.units.specs.{
+  declared.profiles.Profile.{Profile},
+  declared.switches.Switches.{Switches},
+};
+ghost use Rattle.autocoder.specs.{
+  Loadable.{IsLoadable},
+  Programs.{IsFaultless, image_for, size_for, start_for},
+};
+ghost use Rattle.loader.specs.{
+  Stretches.{IsSplit, stretches_of},
+  Cards.{loading_cards},
+  Decks.{loading_cards_of},
+  Loading.{at_the_start, instructions_to_load, IsBetweenCards},
+};
 
 use autocoder::faultless_sources_can_be_loaded;
 

@@ -5,10 +5,12 @@ ghost use Rattle.core_store.specs.Storage.{largest_size};
 ghost use Rattle.cards.specs.Decks.{largest_deck};
 ghost use Rattle.autocoder_layout.specs.Source.{source_of};
 ghost use Rattle.autocoder.specs.Programs.{IsProgramOf};
-ghost use Rattle.loader.specs.Stretches.{stretches_of};
-ghost use Rattle.loader.specs.Cards.{load_card, loading_cards};
-ghost use Rattle.loader.specs.Decks.{data_of, runnable_deck};
-ghost use Rattle.loader.specs.Loading.{Loads};
+ghost use Rattle.loader.specs.{
+  Stretches.{stretches_of},
+  Cards.{load_card, loading_cards},
+  Decks.{data_of, runnable_deck},
+  Loading.{Loads},
+};
 
 use crate::pieces::{boot_card, load_card, start_card};
 use crate::stretches::longest;

@@ -3,8 +3,10 @@
 ghost use Rattle.std.specs.Prelude.{◌≡◌, ◌+◌, ◌<◌, ◌≤◌, ◌++◌, true, length, map, All};
 ghost use Rattle.core_store.specs.Storage.{largest_size};
 ghost use Rattle.cards.specs.Decks.{card_columns};
-ghost use Rattle.loader.specs.Stretches.{is_lawful, most_characters};
-ghost use Rattle.loader.specs.Cards.{boot_card, moving, load_card, start_card};
+ghost use Rattle.loader.specs.{
+  Stretches.{is_lawful, most_characters},
+  Cards.{boot_card, moving, load_card, start_card},
+};
 
 use crate::columns::{Columns, INSTRUCTION_LENGTH};
 use crate::places::punch_places;

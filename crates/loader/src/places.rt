@@ -1,11 +1,15 @@
 //! The three places for instructions that set and clear word marks.
 
-ghost use Rattle.std.specs.Prelude.{◌≡◌, ◌+◌, ◌-◌, ◌*◌, ◌<◌, ◌≤◌, ◌∷◌, [], ◌++◌, true, length, position, replicate, codes, All, IfSome, MatchOption};
-ghost use Rattle.std.specs.List.{concat};
+ghost use Rattle.std.specs.{
+  Prelude.{◌≡◌, ◌+◌, ◌-◌, ◌*◌, ◌<◌, ◌≤◌, ◌∷◌, [], ◌++◌, true, length, position, replicate, codes, All, IfSome, MatchOption},
+  List.{concat},
+};
 ghost use Rattle.core_store.specs.Storage.{largest_size};
 ghost use Rattle.cards.specs.Decks.{card_columns};
-ghost use Rattle.loader.specs.Stretches.{marks_of, is_lawful};
-ghost use Rattle.loader.specs.Cards.{clearing, marking, filled_places, three, unused, instruction};
+ghost use Rattle.loader.specs.{
+  Stretches.{marks_of, is_lawful},
+  Cards.{clearing, marking, filled_places, three, unused, instruction},
+};
 
 use crate::columns::{Columns, INSTRUCTION_LENGTH};
 use crate::stretches::behind_first;

@@ -5,9 +5,11 @@ ghost use Rattle.cards.specs.Decks.{largest_deck};
 ghost use Rattle.autocoder_layout.specs.Source.{source_of};
 ghost use Rattle.autocoder.specs.Programs.{IsProgramOf};
 ghost use Rattle.loader.specs.Decks.{runnable_deck};
-ghost use Rattle.local_runs.specs.Runs.{Reads};
-ghost use Rattle.local_runs.specs.Endings.{ending_by, made_by};
-ghost use Rattle.local_runs.specs.Assembling.{Assembles, Ends, IsMadeOf, made_of};
+ghost use Rattle.local_runs.specs.{
+  Runs.{Reads},
+  Endings.{ending_by, made_by},
+  Assembling.{Assembles, Ends, IsMadeOf, made_of},
+};
 
 use crate::running::text_in;
 use crate::showing::{Assembled, Hindrance, Product, hinder, show_hindrance, show_product};

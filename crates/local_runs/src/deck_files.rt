@@ -1,8 +1,7 @@
 //! Runs of decks, and assemblies of sources, from files.
 
 ghost use Rattle.std.specs.Prelude.{List, ℕ, IfOk};
-ghost use Rattle.local_runs.specs.Assembling.{Assembles};
-ghost use Rattle.local_runs.specs.Runs.{Tells};
+ghost use Rattle.local_runs.specs.{Assembling.{Assembles}, Runs.{Tells}};
 
 use crate::assembling::assemble_deck;
 use crate::running::run_deck;

@@ -1,9 +1,7 @@
 //! What is written to OUT.
 
-ghost use Rattle.std.specs.Prelude.{◌≡◌, None, IfOk, Ok};
-ghost use Rattle.std.specs.Io.KnownBytes.{Keeps};
-ghost use Rattle.local_runs.specs.Endings.{out_in};
-ghost use Rattle.local_runs.specs.Put.{IsPut};
+ghost use Rattle.std.specs.{Prelude.{◌≡◌, None, IfOk, Ok}, Io.KnownBytes.{Keeps}};
+ghost use Rattle.local_runs.specs.{Endings.{out_in}, Put.{IsPut}};
 
 use crate::replacing::put_file;
 use crate::showing::Assembled;

@@ -1,12 +1,16 @@
 //! Running a deck from a reader.
 
-ghost use Rattle.std.specs.Prelude.{◌≡◌, ◌≢◌, ◌<◌, ◌⊎◌, List, ℕ, take, IfOk, IfErr, OnOk};
-ghost use Rattle.std.specs.Io.KnownBytes.{Appends};
+ghost use Rattle.std.specs.{
+  Prelude.{◌≡◌, ◌≢◌, ◌<◌, ◌⊎◌, List, ℕ, take, IfOk, IfErr, OnOk},
+  Io.KnownBytes.{Appends},
+};
 ghost use Rattle.machine.specs.Run.{lines_of};
-ghost use Rattle.cards.specs.Decks.{IsDeck};
-ghost use Rattle.cards.specs.Faults.{out_of_memory};
-ghost use Rattle.cards.specs.Files.{text_of};
-ghost use Rattle.cards.specs.declared.Card.{Card};
+ghost use Rattle.cards.specs.{
+  Decks.{IsDeck},
+  Faults.{out_of_memory},
+  Files.{text_of},
+  declared.Card.{Card},
+};
 ghost use Rattle.units.specs.Listing.{rendered};
 ghost use Rattle.local_runs.specs.Runs.{IsListingFault, IsRunOf, IsShown, Reads, Refuses, Tells, shown_by, most_bytes};
 

@@ -1,7 +1,6 @@
 //! The lines of a source's faults.
 
-ghost use Rattle.std.specs.Prelude.{OnOk};
-ghost use Rattle.std.specs.Io.KnownBytes.{Appends};
+ghost use Rattle.std.specs.{Prelude.{OnOk}, Io.KnownBytes.{Appends}};
 ghost use Rattle.local_runs.specs.Endings.{fault_line, fault_lines};
 
 use autocoder_layout::CardFault;

@@ -5,14 +5,15 @@
 //! `cycle`.
 
 ghost use Rattle.std.specs.Prelude.{◌≡◌, ◌≤◌, ◌<◌, ℕ, true, false, length, Ok};
-ghost use Rattle.core_store.specs.Doing.{DoesOrLeaves};
-ghost use Rattle.core_store.specs.Storage.{largest_size};
+ghost use Rattle.core_store.specs.{Doing.{DoesOrLeaves}, Storage.{largest_size}};
 ghost use Rattle.units.specs.declared.units.Units.{Units};
-ghost use Rattle.machine.specs.declared.named.Operation.TheVariants.{OnFields};
-ghost use Rattle.machine.specs.declared.operations.Course.TheVariants.{GoesOn};
-ghost use Rattle.machine.specs.Effect.{effect, worked, works_of};
-ghost use Rattle.machine.specs.Instructions.{decoded_by};
-ghost use Rattle.machine.specs.Word.{LooksInside};
+ghost use Rattle.machine.specs.{
+  declared.named.Operation.TheVariants.{OnFields},
+  declared.operations.Course.TheVariants.{GoesOn},
+  Effect.{effect, worked, works_of},
+  Instructions.{decoded_by},
+  Word.{LooksInside},
+};
 
 use crate::characters::{ADD, BRANCH, COMPARE, LOAD, MOVE, SUBTRACT};
 use crate::instruction::Instruction;

@@ -2,8 +2,10 @@
 
 ghost use Rattle.std.specs.Prelude.{◌≡◌, ◌<◌, ◌==◌, length};
 ghost use Rattle.bcd.specs.Table.{zone_number};
-ghost use Rattle.machine.specs.Branches.{condition_of, is_met, once_tested, test_of, passes, has_zone};
-ghost use Rattle.machine.specs.Instructions.{condition_by, place_of};
+ghost use Rattle.machine.specs.{
+  Branches.{condition_of, is_met, once_tested, test_of, passes, has_zone},
+  Instructions.{condition_by, place_of},
+};
 
 use bcd::{Code, Zone};
 use bitflags::Flags;

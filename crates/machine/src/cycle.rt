@@ -3,10 +3,11 @@
 ghost use Rattle.std.specs.Prelude.{◌≡◌, ◌+◌, ◌%◌, ◌<◌, ◌≤◌, ℕ, true, length, Ok, Err, OnOk, OnErr, IfOk, IfErr};
 ghost use Rattle.core_store.specs.Storage.{largest_size};
 ghost use Rattle.machine.specs.Effect.{attempt, works_of, Ends, next_of};
-ghost use Rattle.units.specs.Units.{areas_end, Makes};
-ghost use Rattle.units.specs.declared.units.Units.{Units};
-ghost use Rattle.machine.specs.Shapes.{has_two, operands_at, shape_at};
-ghost use Rattle.machine.specs.Run.{after, attempts, is_running, running, step, IsWanting};
+ghost use Rattle.units.specs.{Units.{areas_end, Makes}, declared.units.Units.{Units}};
+ghost use Rattle.machine.specs.{
+  Shapes.{has_two, operands_at, shape_at},
+  Run.{after, attempts, is_running, running, step, IsWanting},
+};
 
 use crate::at_once::execute_at_once;
 use crate::cache::{Cache, LOOKED_AT};

@@ -2,9 +2,11 @@
 
 ghost use Rattle.std.specs.Prelude.{◌≡◌, ◌↔◌, ◌+◌, ◌-◌, ◌<◌, ◌≤◌, ℕ, length, slice_index, unwrap_or, min, if◌then◌else◌, true, Some, None, IfSome, IfOk};
 ghost use Rattle.core_store.specs.Storage.{Storage, codes_from, is_marked, least_mark, largest_size};
-ghost use Rattle.machine.specs.Word.{word_length, ending_in, IsInstruction};
-ghost use Rattle.machine.specs.Instructions.{decoded_by, Names};
-ghost use Rattle.machine.specs.Shapes.{addresses_of, has_two, instruction_at, operands_at, shape_at, shape_of, tagged_at};
+ghost use Rattle.machine.specs.{
+  Word.{word_length, ending_in, IsInstruction},
+  Instructions.{decoded_by, Names},
+  Shapes.{addresses_of, has_two, instruction_at, operands_at, shape_at, shape_of, tagged_at},
+};
 
 use crate::forms::{addresses_in, allows, has_form};
 use crate::shapes::{Addresses, Shape};

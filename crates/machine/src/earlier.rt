@@ -1,14 +1,18 @@
 //! Laws of machines whose earlier cards and lines are kept elsewhere.
 
 ghost use Rattle.std.specs.Prelude.{◌≡◌, ℕ, List};
-ghost use Rattle.units.specs.Units.{nothing_made, Makes};
-ghost use Rattle.units.specs.declared.printer.Line.{Line};
-ghost use Rattle.units.specs.declared.punch.Punched.{Punched};
-ghost use Rattle.units.specs.declared.switches.Switches.{Switches};
-ghost use Rattle.machine.specs.Earlier.{with_earlier, without_outputs, IsBehind};
-ghost use Rattle.machine.specs.Ranges.{IsInRange};
-ghost use Rattle.machine.specs.Run.{State, after, attempts, executed, lines_of, started};
-ghost use Rattle.machine.specs.Standings.{standing_of};
+ghost use Rattle.units.specs.{
+  Units.{nothing_made, Makes},
+  declared.printer.Line.{Line},
+  declared.punch.Punched.{Punched},
+  declared.switches.Switches.{Switches},
+};
+ghost use Rattle.machine.specs.{
+  Earlier.{with_earlier, without_outputs, IsBehind},
+  Ranges.{IsInRange},
+  Run.{State, after, attempts, executed, lines_of, started},
+  Standings.{standing_of},
+};
 
 /// The law of earlier cards and lines: a machine whose earlier ones are kept elsewhere runs and
 /// starts as the one that has them itself, and makes the same behind them.

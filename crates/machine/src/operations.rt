@@ -1,18 +1,21 @@
 //! What the operations do.
 
 ghost use Rattle.std.specs.Prelude.{◌≡◌, ◌≤◌, ◌<◌, ◌==◌, ℕ, true, length, if◌then◌else◌, codes};
-ghost use Rattle.core_store.specs.Doing.{Does};
-ghost use Rattle.core_store.specs.Storage.{Storage, largest_size, code_at};
-ghost use Rattle.core_store.specs.Operands.{lowered};
-ghost use Rattle.units.specs.declared.units.Units.{Units};
-ghost use Rattle.units.specs.Units.{areas_end};
-ghost use Rattle.machine.specs.declared.named.Operation.TheVariants.{OnFields, ClearStorage, StoreA, StoreB, Operate, MoveCarriage, ChoosePocket};
-ghost use Rattle.machine.specs.Branches.{is_met, once_tested, test_of};
-ghost use Rattle.machine.specs.Effect.{effect, worked, Ends, works_of, branched, after_branch, after_halt};
-ghost use Rattle.machine.specs.Instructions.{decoded_by, condition_by};
-ghost use Rattle.machine.specs.Word.{LooksInside};
-ghost use Rattle.machine.specs.Glyphs.{is_glyph};
-ghost use Rattle.machine.specs.Operations.{devices};
+ghost use Rattle.core_store.specs.{
+  Doing.{Does},
+  Storage.{Storage, largest_size, code_at},
+  Operands.{lowered},
+};
+ghost use Rattle.units.specs.{declared.units.Units.{Units}, Units.{areas_end}};
+ghost use Rattle.machine.specs.{
+  declared.named.Operation.TheVariants.{OnFields, ClearStorage, StoreA, StoreB, Operate, MoveCarriage, ChoosePocket},
+  Branches.{is_met, once_tested, test_of},
+  Effect.{effect, worked, Ends, works_of, branched, after_branch, after_halt},
+  Instructions.{decoded_by, condition_by},
+  Word.{LooksInside},
+  Glyphs.{is_glyph},
+  Operations.{devices},
+};
 
 use self::FieldOperation::{
     Add, ClearMark, Compare, Edit, Load, ModifyAddress, Move, MoveDigit, MoveZone, SetMark,

@@ -1,8 +1,7 @@
 //! The parts of a machine.
 
 ghost use Rattle.std.specs.Prelude.{◌≡◌};
-ghost use Rattle.machine.specs.Run.{event_of};
-ghost use Rattle.machine.specs.Standings.{standing_of};
+ghost use Rattle.machine.specs.{Run.{event_of}, Standings.{standing_of}};
 
 use crate::standings::{Event, Standing, StandingAt};
 use core_store::{Core, Registers};

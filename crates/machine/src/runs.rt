@@ -3,15 +3,17 @@
 ghost use Rattle.std.specs.Prelude.{◌≡◌, ◌+◌, ◌-◌, ◌<◌, ◌≤◌, ◌&&◌, ℕ, List, [], length, true, false, IfOk, IfSome, MatchOption, OnErr, OnOk, if◌then◌else◌, take};
 ghost use Rattle.cards.specs.declared.decks.Card.{Card};
 ghost use Rattle.core_store.specs.declared.sizes.Size.{Size};
-ghost use Rattle.units.specs.declared.profiles.Profile.{Profile};
-ghost use Rattle.units.specs.declared.switches.Switches.{Switches};
+ghost use Rattle.units.specs.{
+  declared.profiles.Profile.{Profile},
+  declared.switches.Switches.{Switches},
+};
 ghost use Rattle.core_store.specs.Storage.{blank_storage, put_codes, with_mark, positions_of};
-ghost use Rattle.units.specs.Listing.{IsRising};
-ghost use Rattle.units.specs.Stacked.{IsPlain};
-ghost use Rattle.units.specs.Units.{Makes};
-ghost use Rattle.machine.specs.Run.{first_card, first_units, State, step, after, attempts, executed, lines_of, risen, is_running, is_checked, is_halted, event_of, loaded, started, restored, IsGivenUp};
-ghost use Rattle.machine.specs.Effect.{works_of};
-ghost use Rattle.machine.specs.Ranges.{IsInRange};
+ghost use Rattle.units.specs.{Listing.{IsRising}, Stacked.{IsPlain}, Units.{Makes}};
+ghost use Rattle.machine.specs.{
+  Run.{first_card, first_units, State, step, after, attempts, executed, lines_of, risen, is_running, is_checked, is_halted, event_of, loaded, started, restored, IsGivenUp},
+  Effect.{works_of},
+  Ranges.{IsInRange},
+};
 
 use crate::meter::Meter;
 use crate::parts::Parts;

@@ -1,8 +1,10 @@
 //! Whether a machine runs, and where it stopped.
 
 ghost use Rattle.std.specs.Prelude.{◌≡◌, Some};
-ghost use Rattle.machine.specs.Run.{is_running, is_checked, event_of};
-ghost use Rattle.machine.specs.Standings.{goes_on, is_at_halt, standing_at, standing_words};
+ghost use Rattle.machine.specs.{
+  Run.{is_running, is_checked, event_of},
+  Standings.{goes_on, is_at_halt, standing_at, standing_words},
+};
 
 use core_store::Check;
 use std::fmt;

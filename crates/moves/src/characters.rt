@@ -1,8 +1,7 @@
 //! Characters as zone and numeric part.
 
 ghost use Rattle.std.specs.Prelude.{◌≡◌, ◌<◌, ◌≤◌, ℕ};
-ghost use Rattle.bcd.specs.Table.{zone_number};
-ghost use Rattle.bcd.specs.declared.Zone.{Zone};
+ghost use Rattle.bcd.specs.{Table.{zone_number}, declared.Zone.{Zone}};
 ghost use Rattle.moves.specs.Characters.{part_of, of_parts, bare, IsOfParts};
 
 use bcd::{Code, Zone};

@@ -1,9 +1,13 @@
 //! The characters of a control field, filled with data and blanked at once, as lanes.
 
-ghost use Rattle.std.specs.Prelude.{◌≡◌, ◌-◌, ◌<◌, ◌≤◌, ◌==◌, ℕ, All, drop, length, map, nat_le, if◌then◌else◌};
-ghost use Rattle.std.specs.Simd.Lanes.{sel_l, zip2};
-ghost use Rattle.moves.specs.Characters.{from_right};
-ghost use Rattle.moves.specs.Edited.{is_place, places_right, filled_code, filled, through_zero, edited};
+ghost use Rattle.std.specs.{
+  Prelude.{◌≡◌, ◌-◌, ◌<◌, ◌≤◌, ◌==◌, ℕ, All, drop, length, map, nat_le, if◌then◌else◌},
+  Simd.Lanes.{sel_l, zip2},
+};
+ghost use Rattle.moves.specs.{
+  Characters.{from_right},
+  Edited.{is_place, places_right, filled_code, filled, through_zero, edited},
+};
 
 use crate::blanking::Stop;
 use crate::lanes::{blank_codes, equal};

@@ -1,14 +1,18 @@
 //! Data edited by a control field.
 
 ghost use Rattle.std.specs.Prelude.{◌≡◌, ◌+◌, ◌-◌, ◌<◌, ◌≤◌, ℕ, List, Bool, true, false, length, max, min, slice_index, Some, IfSome, Ok};
-ghost use Rattle.core_store.specs.Doing.{Does, DoesOrLeaves};
-ghost use Rattle.core_store.specs.Storage.{codes_ending, field_length, put_codes, largest_size};
-ghost use Rattle.core_store.specs.Operands.{are_inside, cut_length};
-ghost use Rattle.moves.specs.Blanked.{ends, leading, blanked};
-ghost use Rattle.moves.specs.Characters.{bare_units};
-ghost use Rattle.moves.specs.declared.blanking.Stop.TheVariants.{Digit};
-ghost use Rattle.moves.specs.Stretches.{AreIn, IsIn};
-ghost use Rattle.moves.specs.Edited.{edited, is_minus, is_place, is_sharing, places, field_edited, IsShown};
+ghost use Rattle.core_store.specs.{
+  Doing.{Does, DoesOrLeaves},
+  Storage.{codes_ending, field_length, put_codes, largest_size},
+  Operands.{are_inside, cut_length},
+};
+ghost use Rattle.moves.specs.{
+  Blanked.{ends, leading, blanked},
+  Characters.{bare_units},
+  declared.blanking.Stop.TheVariants.{Digit},
+  Stretches.{AreIn, IsIn},
+  Edited.{edited, is_minus, is_place, is_sharing, places, field_edited, IsShown},
+};
 
 use crate::blanking::{Stop, blank_near, blank_start};
 use crate::control::edit_codes;

@@ -2,9 +2,11 @@
 
 ghost use Rattle.std.specs.Prelude.{◌≡◌, ◌+◌, ◌-◌, ◌<◌, ◌≤◌, ◌==◌, ◌&&◌, ℕ, false, length, codes, max, if◌then◌else◌};
 ghost use Rattle.core_store.specs.Storage.{codes_ending, put_codes, largest_size};
-ghost use Rattle.moves.specs.Characters.{is_any, bare_units, from_right};
-ghost use Rattle.moves.specs.Stretches.{AreIn, IsIn};
-ghost use Rattle.moves.specs.Edited.{is_place, places, filled_code, filled, through_zero, is_minus, is_sharing};
+ghost use Rattle.moves.specs.{
+  Characters.{is_any, bare_units, from_right},
+  Stretches.{AreIn, IsIn},
+  Edited.{is_place, places, filled_code, filled, through_zero, is_minus, is_sharing},
+};
 
 use crate::lanes;
 use crate::suppressing::bare_at;

@@ -1,11 +1,15 @@
 //! At most sixteen characters at once, as lanes.
 
-ghost use Rattle.std.specs.Prelude.{◌≡◌, ◌-◌, ◌<◌, ◌≤◌, ◌==◌, All, drop, length, map, min};
-ghost use Rattle.std.specs.Simd.Lanes.{mask_l};
-ghost use Rattle.moves.specs.Blanked.{ends, leading, faded, blanked};
-ghost use Rattle.moves.specs.Characters.{bare_units};
-ghost use Rattle.moves.specs.Edited.{places};
-ghost use Rattle.moves.specs.declared.blanking.Stop.TheVariants.{Other, Digit};
+ghost use Rattle.std.specs.{
+  Prelude.{◌≡◌, ◌-◌, ◌<◌, ◌≤◌, ◌==◌, All, drop, length, map, min},
+  Simd.Lanes.{mask_l},
+};
+ghost use Rattle.moves.specs.{
+  Blanked.{ends, leading, faded, blanked},
+  Characters.{bare_units},
+  Edited.{places},
+  declared.blanking.Stop.TheVariants.{Other, Digit},
+};
 
 use crate::blanking::Stop;
 use core_store::{last_of, replace_lanes};

@@ -1,11 +1,12 @@
 //! A field loaded with its word mark.
 
 ghost use Rattle.std.specs.Prelude.{◌≡◌, ◌+◌, ◌-◌, ◌<◌, ℕ, true, false, Some, length, Ok};
-ghost use Rattle.core_store.specs.Doing.{Does, DoesOrLeaves};
-ghost use Rattle.core_store.specs.Storage.{Storage, cells_ending, field_length, put_cells, largest_size};
-ghost use Rattle.core_store.specs.declared.registers.Registers.{Registers};
-ghost use Rattle.moves.specs.Stretches.{AreNear};
-ghost use Rattle.moves.specs.Loaded.{field_loaded, IsLoaded};
+ghost use Rattle.core_store.specs.{
+  Doing.{Does, DoesOrLeaves},
+  Storage.{Storage, cells_ending, field_length, put_cells, largest_size},
+  declared.registers.Registers.{Registers},
+};
+ghost use Rattle.moves.specs.{Stretches.{AreNear}, Loaded.{field_loaded, IsLoaded}};
 
 use crate::near::{clear_near_marks, far_field, near_field, put_last};
 use core_store::{Check, Core, Registers};

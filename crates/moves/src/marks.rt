@@ -1,8 +1,7 @@
 //! Word marks set and cleared, and storage cleared.
 
 ghost use Rattle.std.specs.Prelude.{◌≡◌, ◌<◌, true, false, length};
-ghost use Rattle.core_store.specs.Doing.{Does};
-ghost use Rattle.core_store.specs.Storage.{with_mark};
+ghost use Rattle.core_store.specs.{Doing.{Does}, Storage.{with_mark}};
 ghost use Rattle.moves.specs.Marks.{marks_put, storage_cleared};
 
 use core_store::{Check, Core, Registers, check_inside, lower};

@@ -1,12 +1,16 @@
 //! A field moved up to a word mark.
 
 ghost use Rattle.std.specs.Prelude.{◌≡◌, ◌+◌, ◌-◌, ◌<◌, ◌≤◌, ◌&&◌, ℕ, true, false, Some, length, nat_le, IfSome, IsTrue, Ok};
-ghost use Rattle.core_store.specs.Doing.{Does, DoesOrLeaves};
-ghost use Rattle.core_store.specs.Storage.{Storage, put_codes, largest_size};
-ghost use Rattle.core_store.specs.Operands.{are_inside, is_overlapping};
-ghost use Rattle.core_store.specs.declared.registers.Registers.{Registers};
-ghost use Rattle.moves.specs.Stretches.{AreIn, AreNear};
-ghost use Rattle.moves.specs.Moved.{least_of, move_length, moved_codes, moved, IsMoved};
+ghost use Rattle.core_store.specs.{
+  Doing.{Does, DoesOrLeaves},
+  Storage.{Storage, put_codes, largest_size},
+  Operands.{are_inside, is_overlapping},
+  declared.registers.Registers.{Registers},
+};
+ghost use Rattle.moves.specs.{
+  Stretches.{AreIn, AreNear},
+  Moved.{least_of, move_length, moved_codes, moved, IsMoved},
+};
 
 use crate::near::put_last;
 use core_store::{Check, Core, Registers, are_inside, check_inside, field_length, overlaps};

@@ -1,12 +1,13 @@
 //! Fields of at most sixteen characters, written at once.
 
 ghost use Rattle.std.specs.Prelude.{◌≡◌, ◌+◌, ◌-◌, ◌<◌, ◌≤◌, ℕ, All, drop, length, nat_le, not, true, false, Some, Ok, IfSome, IfOk};
-ghost use Rattle.core_store.specs.Storage.{field_length, put_codes, largest_size};
-ghost use Rattle.core_store.specs.Operands.{are_inside, is_overlapping};
-ghost use Rattle.core_store.specs.Checked.{require, find_or};
-ghost use Rattle.core_store.specs.declared.checks.Check.TheVariants.{Address};
-ghost use Rattle.moves.specs.Stretches.{IsIn};
-ghost use Rattle.moves.specs.Suppressed.{unmarked};
+ghost use Rattle.core_store.specs.{
+  Storage.{field_length, put_codes, largest_size},
+  Operands.{are_inside, is_overlapping},
+  Checked.{require, find_or},
+  declared.checks.Check.TheVariants.{Address},
+};
+ghost use Rattle.moves.specs.{Stretches.{IsIn}, Suppressed.{unmarked}};
 
 use core_store::{Check, Core, are_inside, check_inside, field_length, last_of, overlaps};
 use std::simd::prelude::*;

@@ -1,12 +1,16 @@
 //! A field moved without its leading zeros.
 
 ghost use Rattle.std.specs.Prelude.{◌≡◌, ◌+◌, ◌-◌, ◌<◌, ◌≤◌, ◌==◌, ℕ, false, length, if◌then◌else◌};
-ghost use Rattle.core_store.specs.Doing.{Does};
-ghost use Rattle.core_store.specs.Storage.{code_at, codes_ending, put_codes, largest_size};
-ghost use Rattle.core_store.specs.Operands.{is_overlapping};
-ghost use Rattle.moves.specs.Characters.{bare, bare_units};
-ghost use Rattle.moves.specs.Stretches.{AreIn, AreNear};
-ghost use Rattle.moves.specs.Suppressed.{zeros_suppressed, unmarked, suppressed};
+ghost use Rattle.core_store.specs.{
+  Doing.{Does},
+  Storage.{code_at, codes_ending, put_codes, largest_size},
+  Operands.{is_overlapping},
+};
+ghost use Rattle.moves.specs.{
+  Characters.{bare, bare_units},
+  Stretches.{AreIn, AreNear},
+  Suppressed.{zeros_suppressed, unmarked, suppressed},
+};
 
 use crate::blanking::{Stop, blank_start};
 use crate::characters::bare;

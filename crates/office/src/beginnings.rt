@@ -2,17 +2,17 @@
 
 ghost use Rattle.std.specs.Prelude.{◌++◌, ◌↔◌, ℕ, List};
 ghost use Rattle.cards.specs.declared.decks.Card.{Card};
-ghost use Rattle.core_store.specs.Storage.{positions_of};
-ghost use Rattle.core_store.specs.declared.sizes.Size.{Size};
+ghost use Rattle.core_store.specs.{Storage.{positions_of}, declared.sizes.Size.{Size}};
 ghost use Rattle.autocoder.specs.Loadable.{IsLoadable};
 ghost use Rattle.machine.specs.Run.{loaded};
-ghost use Rattle.units.specs.declared.printer.Line.{Line};
-ghost use Rattle.units.specs.declared.profiles.Profile.{Profile};
-ghost use Rattle.units.specs.declared.punch.Punched.{Punched};
-ghost use Rattle.units.specs.declared.switches.Switches.{Switches};
+ghost use Rattle.units.specs.{
+  declared.printer.Line.{Line},
+  declared.profiles.Profile.{Profile},
+  declared.punch.Punched.{Punched},
+  declared.switches.Switches.{Switches},
+};
 ghost use Rattle.autocoder_layout.specs.declared.cells.Cell.{Cell};
-ghost use Rattle.loader.specs.Cards.{loading_cards};
-ghost use Rattle.loader.specs.Loading.{at_the_start};
+ghost use Rattle.loader.specs.{Cards.{loading_cards}, Loading.{at_the_start}};
 ghost use Rattle.office.specs.Whole.{Whole};
 
 use crate::halts::stopped_machines_stay;

@@ -2,9 +2,11 @@
 
 ghost use Rattle.std.specs.Prelude.{◌≡◌, ◌<◌, length, None, OnOk, OnErr, IfOk, IfSome, MatchOption};
 ghost use Rattle.machine.specs.Run.{risen};
-ghost use Rattle.office.specs.Kept.{IsJobInRange, loaded_kept, summary_of, job_refusal, changed, answered, take_kept, attempts_of, attempted_on, limit_of, drive_command, MakesOn, MayWant};
-ghost use Rattle.office.specs.Meters.{RisenAtMost};
-ghost use Rattle.office.specs.declared.commands.JobCommand.{JobCommand};
+ghost use Rattle.office.specs.{
+  Kept.{IsJobInRange, loaded_kept, summary_of, job_refusal, changed, answered, take_kept, attempts_of, attempted_on, limit_of, drive_command, MakesOn, MayWant},
+  Meters.{RisenAtMost},
+  declared.commands.JobCommand.{JobCommand},
+};
 
 use crate::drives::Drive;
 use crate::replies::Reply;

@@ -1,15 +1,19 @@
 //! The laws of jobs.
 
-ghost use Rattle.std.specs.Prelude.{Bool, ◌≡◌, ◌<◌, ℕ, List, [], length, Ok};
-ghost use Rattle.std.specs.List.{AllByRecursion};
+ghost use Rattle.std.specs.{
+  Prelude.{Bool, ◌≡◌, ◌<◌, ℕ, List, [], length, Ok},
+  List.{AllByRecursion},
+};
 ghost use Rattle.cards.specs.Decks.{IsDeck};
 ghost use Rattle.machine.specs.Run.{after, started};
 ghost use Rattle.units.specs.declared.switches.Switches.{Switches};
-ghost use Rattle.office.specs.Jobs.{Job, loaded_deck, picture, HaltsBetween, IsAtHalt, sliced_job, started_job, one_more, HasRunFromItsDeck, HasRunFromItsSource, CanRunItsSource, RunsWhole, IsJob};
-ghost use Rattle.office.specs.Kept.{kept_of, take_kept, job_after, IsJobInRange};
-ghost use Rattle.office.specs.New.{job_or_refusal};
-ghost use Rattle.office.specs.declared.commands.Contents.{Contents};
-ghost use Rattle.office.specs.declared.commands.JobCommand.{JobCommand};
+ghost use Rattle.office.specs.{
+  Jobs.{Job, loaded_deck, picture, HaltsBetween, IsAtHalt, sliced_job, started_job, one_more, HasRunFromItsDeck, HasRunFromItsSource, CanRunItsSource, RunsWhole, IsJob},
+  Kept.{kept_of, take_kept, job_after, IsJobInRange},
+  New.{job_or_refusal},
+  declared.commands.Contents.{Contents},
+  declared.commands.JobCommand.{JobCommand},
+};
 
 use crate::beginnings::programs_run_from_their_start;
 use crate::halts::whole_runs_end_alike;

@@ -3,9 +3,11 @@
 ghost use Rattle.std.specs.Prelude.{◌≡◌, ◌≤◌, ◌<◌, length, None, IfOk, IfErr};
 ghost use Rattle.autocoder_layout.specs.Source.{source_of};
 ghost use Rattle.autocoder.specs.Programs.{IsProgramOf};
-ghost use Rattle.office.specs.Limits.{most_loaded};
-ghost use Rattle.office.specs.Jobs.{loaded_of};
-ghost use Rattle.office.specs.New.{deck_refusal, IsWhyNotLoaded, IsTooLong, IsJobOf, IsWhyNot};
+ghost use Rattle.office.specs.{
+  Limits.{most_loaded},
+  Jobs.{loaded_of},
+  New.{deck_refusal, IsWhyNotLoaded, IsTooLong, IsJobOf, IsWhyNot},
+};
 
 use crate::commands::{Contents, Kind};
 use crate::jobs::Job;

@@ -1,11 +1,15 @@
 //! The laws of whole offices.
 
-ghost use Rattle.std.specs.Prelude.{◌≡◌, ℕ, List};
-ghost use Rattle.std.specs.List.Sorted.{IsPermutation, IsStrictlySortedBy};
+ghost use Rattle.std.specs.{
+  Prelude.{◌≡◌, ℕ, List},
+  List.Sorted.{IsPermutation, IsStrictlySortedBy},
+};
 ghost use Rattle.bcd.specs.Orders.{in_order};
-ghost use Rattle.office.specs.Office.{Office, AreDistinct, own, free_jobs, by_number, by_name, take};
-ghost use Rattle.office.specs.declared.commands.Command.{Command};
-ghost use Rattle.office.specs.declared.replies.Reply.{Reply};
+ghost use Rattle.office.specs.{
+  Office.{Office, AreDistinct, own, free_jobs, by_number, by_name, take},
+  declared.commands.Command.{Command},
+  declared.replies.Reply.{Reply},
+};
 
 /// The law of lists: a customer's list is that customer's jobs, and the list of jobs that are not
 /// held is those jobs, each in rising order.

@@ -1,10 +1,14 @@
 //! The stretches of a job, from one start of its machine to the next.
 
-ghost use Rattle.std.specs.Prelude.{◌≡◌, ◌↔◌, ◌+◌, ◌-◌, ◌^◌, ◌≤◌, [], min, IsTrue, IfOk, OnOk, OnErr, IfSome, MatchOption};
-ghost use Rattle.std.specs.List.{All};
+ghost use Rattle.std.specs.{
+  Prelude.{◌≡◌, ◌↔◌, ◌+◌, ◌-◌, ◌^◌, ◌≤◌, [], min, IsTrue, IfOk, OnOk, OnErr, IfSome, MatchOption},
+  List.{All},
+};
 ghost use Rattle.units.specs.Switches.{seven};
-ghost use Rattle.office.specs.Limits.{most_granted};
-ghost use Rattle.office.specs.Jobs.{granted, granted_more, one_more, HasSwitches, AreStretches};
+ghost use Rattle.office.specs.{
+  Limits.{most_granted},
+  Jobs.{granted, granted_more, one_more, HasSwitches, AreStretches},
+};
 
 use std::alloc::{AllocError, Global};
 use std::marker::Model;

@@ -1,11 +1,11 @@
 //! The task that the arguments ask for.
 
 ghost use Rattle.std.specs.Prelude.{IfOk};
-ghost use Rattle.command_line.specs.Arguments.{given};
-ghost use Rattle.command_line.specs.Plain.{texts};
-ghost use Rattle.command_line.specs.Programs.{AsksFor, wish_as};
-ghost use Rattle.operator.specs.Subcommands.{operator};
-ghost use Rattle.operator.specs.Tasks.{AreRounds, IsPortIn, Wants, WantsArchive, WantsCheck, WantsCopy, WantsJobs, WantsJoin, WantsPart, WantsTask, WantsWatch, WantsWork};
+ghost use Rattle.command_line.specs.{Arguments.{given}, Plain.{texts}, Programs.{AsksFor, wish_as}};
+ghost use Rattle.operator.specs.{
+  Subcommands.{operator},
+  Tasks.{AreRounds, IsPortIn, Wants, WantsArchive, WantsCheck, WantsCopy, WantsJobs, WantsJoin, WantsPart, WantsTask, WantsWatch, WantsWork},
+};
 
 use crate::help::{VERSION, page};
 use crate::subcommands::{OPERATOR, Subcommand};

@@ -1,13 +1,13 @@
 //! The laws of pictures and pages: they are read as what they show.
 
-ghost use Rattle.std.specs.Prelude.{◌≡◌, ◌<◌, ◌^◌, ℕ, List, length};
-ghost use Rattle.std.specs.List.{AllZip};
-ghost use Rattle.cards.specs.Decks.{IsCard, IsDeck};
-ghost use Rattle.cards.specs.declared.Card.{Card};
-ghost use Rattle.pictures.specs.Cards.{picture};
-ghost use Rattle.pictures.specs.Decks.{deck_page_of};
-ghost use Rattle.pictures.specs.Forms.{pages};
-ghost use Rattle.pictures.specs.Reading.{HasThePrint, HasThePunches, Shows, figures_read, listing_read};
+ghost use Rattle.std.specs.{Prelude.{◌≡◌, ◌<◌, ◌^◌, ℕ, List, length}, List.{AllZip}};
+ghost use Rattle.cards.specs.{Decks.{IsCard, IsDeck}, declared.Card.{Card}};
+ghost use Rattle.pictures.specs.{
+  Cards.{picture},
+  Decks.{deck_page_of},
+  Forms.{pages},
+  Reading.{HasThePrint, HasThePunches, Shows, figures_read, listing_read},
+};
 
 /// The law of holes: the upper left corners of the holes in a card's picture are those of the
 /// columns and rows in which the card is punched, and no others.

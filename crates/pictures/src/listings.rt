@@ -1,8 +1,7 @@
 //! The pages of a listing.
 
 ghost use Rattle.std.specs.Prelude.{◌≡◌, ◌++◌, IfOk, IfErr, OnOk};
-ghost use Rattle.pictures.specs.Faults.{IsFault, IsListing};
-ghost use Rattle.pictures.specs.Forms.{listing_head, pages};
+ghost use Rattle.pictures.specs.{Faults.{IsFault, IsListing}, Forms.{listing_head, pages}};
 
 use crate::faults::ListingFault;
 use crate::finding::first_fault;

@@ -1,8 +1,10 @@
 //! The stock of a card: its paper with what is printed on it before it is punched.
 
 ghost use Rattle.std.specs.Prelude.{◌≡◌, ◌≤◌, ◌<◌, ◌+◌, ◌*◌, ◌++◌, ◌∷◌, replicate, decimal, OnOk};
-ghost use Rattle.pictures.specs.Places.{column_middle};
-ghost use Rattle.pictures.specs.Cards.{column_number, column_numbers, face, face_row, next_place, places, stock};
+ghost use Rattle.pictures.specs.{
+  Places.{column_middle},
+  Cards.{column_number, column_numbers, face, face_row, next_place, places, stock},
+};
 
 use cards::COLUMNS;
 use std::alloc::AllocError;

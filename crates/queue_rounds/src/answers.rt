@@ -1,10 +1,11 @@
 //! What the bureau's replies over HTTP say.
 
 ghost use Rattle.std.specs.Prelude.{◌≡◌, Some, All, IfOk, IfSome, option_map, map, string_bytes};
-ghost use Rattle.serde_json.specs.Data.{Data};
-ghost use Rattle.serde_json.specs.View.{items_view, view};
-ghost use Rattle.queue_rounds.specs.Answers.{Tells, name_in, names_in, number_at, queue_in, ran_in, refusal_in, standing_at, text_at};
-ghost use Rattle.queue_rounds.specs.Names.{IsName, name_of};
+ghost use Rattle.serde_json.specs.{Data.{Data}, View.{items_view, view}};
+ghost use Rattle.queue_rounds.specs.{
+  Answers.{Tells, name_in, names_in, number_at, queue_in, ran_in, refusal_in, standing_at, text_at},
+  Names.{IsName, name_of},
+};
 
 use crate::jobs::JobName;
 use crate::standing_texts::is_standing;

@@ -1,15 +1,21 @@
 //! The laws of rounds, of the changes of a queue, and of standings.
 
-ghost use Rattle.std.specs.Prelude.{◌≡◌, ◌+◌, ◌≤◌, ◌&&◌, ◌||◌, ℕ, Bool, List, Option, Some, true, not};
-ghost use Rattle.std.specs.List.{list_all};
-ghost use Rattle.machine.specs.Standings.{standing_words};
-ghost use Rattle.machine.specs.declared.standings.StandingAt.{StandingAt};
-ghost use Rattle.queue_rounds.specs.Names.{Name, is_among, missing};
-ghost use Rattle.queue_rounds.specs.Rounds.{start};
-ghost use Rattle.queue_rounds.specs.Runs.{after_all, all_go_on, begun_by, count, listed_by, none_ran, paused_by, sliced_by, total};
-ghost use Rattle.queue_rounds.specs.StandingTexts.{IsInStorage, is_standing};
-ghost use Rattle.queue_rounds.specs.declared.jobs.JobName.{JobName};
-ghost use Rattle.queue_rounds.specs.declared.replies.Outcome.{Outcome};
+ghost use Rattle.std.specs.{
+  Prelude.{◌≡◌, ◌+◌, ◌≤◌, ◌&&◌, ◌||◌, ℕ, Bool, List, Option, Some, true, not},
+  List.{list_all},
+};
+ghost use Rattle.machine.specs.{
+  Standings.{standing_words},
+  declared.standings.StandingAt.{StandingAt},
+};
+ghost use Rattle.queue_rounds.specs.{
+  Names.{Name, is_among, missing},
+  Rounds.{start},
+  Runs.{after_all, all_go_on, begun_by, count, listed_by, none_ran, paused_by, sliced_by, total},
+  StandingTexts.{IsInStorage, is_standing},
+  declared.jobs.JobName.{JobName},
+  declared.replies.Outcome.{Outcome},
+};
 
 /// The law of rounds: a job has had one slice for each round that listed it, but for the last round
 /// if it still waits there. So each job of a round that is over has had exactly one slice of it,

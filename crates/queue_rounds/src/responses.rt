@@ -1,7 +1,6 @@
 //! The response that a bureau sends, read from its bytes.
 
-ghost use Rattle.std.specs.Prelude.{◌≡◌, ◌≤◌, All, IfOk, length, map};
-ghost use Rattle.std.specs.Bool.{MatchBool};
+ghost use Rattle.std.specs.{Prelude.{◌≡◌, ◌≤◌, All, IfOk, length, map}, Bool.{MatchBool}};
 ghost use Rattle.httparse.specs.Spans.{IsHeaderWithin, header_bytes};
 ghost use Rattle.queue_rounds.specs.Responses.{IsCut, IsNumberIn, IsReplyIn, IsWhole, StatesLength};
 

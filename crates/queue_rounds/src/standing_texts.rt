@@ -1,8 +1,10 @@
 //! The texts that a bureau prints of the standing of a job.
 
-ghost use Rattle.std.specs.Prelude.{◌≡◌, ◌≢◌, ◌++◌, ℕ, List, MatchOption};
-ghost use Rattle.std.specs.Bool.{MatchBool};
-ghost use Rattle.std.specs.List.{list_any};
+ghost use Rattle.std.specs.{
+  Prelude.{◌≡◌, ◌≢◌, ◌++◌, ℕ, List, MatchOption},
+  Bool.{MatchBool},
+  List.{list_any},
+};
 ghost use Rattle.queue_rounds.specs.StandingTexts.{IsAddress, is_standing, is_with_address};
 
 use texts::number_up_to;

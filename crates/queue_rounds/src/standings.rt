@@ -2,8 +2,7 @@
 
 ghost use Rattle.std.specs.Prelude.{◌≡◌, IfOk, option_map, string_bytes};
 ghost use Rattle.serde_json.specs.View.{view};
-ghost use Rattle.queue_rounds.specs.Answers.{Tells, flag_at, standing_in};
-ghost use Rattle.queue_rounds.specs.Standings.{stands};
+ghost use Rattle.queue_rounds.specs.{Answers.{Tells, flag_at, standing_in}, Standings.{stands}};
 
 use crate::answers::{number_at, read, standing_at};
 use serde_json::Value;

@@ -2,8 +2,10 @@
 
 ghost use Rattle.std.specs.Prelude.{◌≡◌, ◌++◌, option_copied, IfOk, OnOk};
 ghost use Rattle.machine.specs.Run.{step};
-ghost use Rattle.run_traces.specs.Attempts.{attempt_line, beginning, channel_sign, check_shown, compared_sign, effect_shown, outcome, overflow_sign, registers_shown};
-ghost use Rattle.run_traces.specs.Shown.{characters_next, left};
+ghost use Rattle.run_traces.specs.{
+  Attempts.{attempt_line, beginning, channel_sign, check_shown, compared_sign, effect_shown, outcome, overflow_sign, registers_shown},
+  Shown.{characters_next, left},
+};
 
 use crate::causes::push_cause;
 use crate::effects::{Made, effects_since, made_by};

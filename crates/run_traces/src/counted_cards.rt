@@ -3,8 +3,10 @@
 ghost use Rattle.std.specs.Prelude.{◌≡◌, ◌++◌, ℕ, OnOk};
 ghost use Rattle.card_tools.specs.Lines.{barred, numbered_card};
 ghost use Rattle.machine.specs.Run.{State};
-ghost use Rattle.run_traces.specs.CountedCards.{card_counted, cards_counted, count_field};
-ghost use Rattle.run_traces.specs.Profiles.{IsCounted, began_at};
+ghost use Rattle.run_traces.specs.{
+  CountedCards.{card_counted, cards_counted, count_field},
+  Profiles.{IsCounted, began_at},
+};
 
 use crate::counting::Begun;
 use crate::names::Names;

@@ -3,10 +3,12 @@
 ghost use Rattle.std.specs.Prelude.{◌≡◌, ◌+◌, ◌<◌, ◌==◌, ℕ, if◌then◌else◌, [], length, slice_index_or, None, IfOk, OnOk};
 ghost use Rattle.core_store.specs.Storage.{largest_size};
 ghost use Rattle.machine.specs.Run.{State, after, most_instructions};
-ghost use Rattle.run_traces.specs.Ends.{end_of};
-ghost use Rattle.run_traces.specs.Profiles.{CountsNext, IsCounted};
-ghost use Rattle.run_traces.specs.declared.counting.Begun.{Begun};
-ghost use Rattle.run_traces.specs.Shown.{characters_next};
+ghost use Rattle.run_traces.specs.{
+  Ends.{end_of},
+  Profiles.{CountsNext, IsCounted},
+  declared.counting.Begun.{Begun},
+  Shown.{characters_next},
+};
 
 use crate::ends::goes_on;
 use crate::shown::push_characters;

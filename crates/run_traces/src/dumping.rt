@@ -2,8 +2,7 @@
 
 ghost use Rattle.std.specs.Prelude.{◌≡◌, ◌-◌, ◌<◌, ◌≤◌, ◌++◌, min, length, unwrap_or, IfOk, OnOk};
 ghost use Rattle.core_store.specs.Storage.{largest_size};
-ghost use Rattle.machine.specs.Run.{loaded, most_instructions};
-ghost use Rattle.machine.specs.Ranges.{HasSize};
+ghost use Rattle.machine.specs.{Run.{loaded, most_instructions}, Ranges.{HasSize}};
 ghost use Rattle.units.specs.declared.profiles.Profile.TheVariants.{Selecting};
 ghost use Rattle.run_traces.specs.Dumps.{addresses_shown, arithmetic_shown, carriage_shown, channel_words, compared_words, dumped_machine, end_row, first_row, machine_shown, made_shown, on_or_off, read_shown, registers_line, storage_shown, units_line, unread_shown, waiting_words};
 

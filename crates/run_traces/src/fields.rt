@@ -3,8 +3,10 @@
 ghost use Rattle.std.specs.Prelude.{◌≡◌, ◌+◌, ◌-◌, ◌<◌, ◌≤◌, ◌==◌, ◌++◌, [], Some, codes, if◌then◌else◌, length, option_copied, IfOk, OnOk};
 ghost use Rattle.core_store.specs.Storage.{largest_size};
 ghost use Rattle.machine.specs.Run.{step};
-ghost use Rattle.run_traces.specs.Attempts.{attempt_line};
-ghost use Rattle.run_traces.specs.Fields.{after_line, attempt_shown, both_lines, field_by, field_shown, fields_lines, past_words, unmarked_words};
+ghost use Rattle.run_traces.specs.{
+  Attempts.{attempt_line},
+  Fields.{after_line, attempt_shown, both_lines, field_by, field_shown, fields_lines, past_words, unmarked_words},
+};
 
 use crate::attempts::push_attempt;
 use crate::names::Names;

@@ -1,15 +1,12 @@
 //! The laws of what is shown of a run.
 
 ghost use Rattle.std.specs.Prelude.{◌≡◌, ◌*◌, ◌<◌, ◌≤◌, ℕ, All, List, Option, None, length};
-ghost use Rattle.run_traces.specs.Reading.{storage_read};
-ghost use Rattle.run_traces.specs.Rows.{row_length, rows_shown};
+ghost use Rattle.run_traces.specs.{Reading.{storage_read}, Rows.{row_length, rows_shown}};
 ghost use Rattle.core_store.specs.Storage.{Storage, largest_size};
-ghost use Rattle.machine.specs.Ranges.{IsInRange};
-ghost use Rattle.machine.specs.Run.{State, after, attempts};
+ghost use Rattle.machine.specs.{Ranges.{IsInRange}, Run.{State, after, attempts}};
 ghost use Rattle.run_traces.specs.Ends.{IsEnd, end_of};
 ghost use Rattle.autocoder_layout.specs.declared.slots.Slot.{Slot};
-ghost use Rattle.run_traces.specs.Names.{Nearest, nearest};
-ghost use Rattle.run_traces.specs.Profiles.{began_at, sum_below};
+ghost use Rattle.run_traces.specs.{Names.{Nearest, nearest}, Profiles.{began_at, sum_below}};
 
 /// The law of the end: a run ends after its last attempt, or at the first stop that it comes to;
 /// and there is no other number of attempts after which it ends.

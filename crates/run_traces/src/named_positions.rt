@@ -3,9 +3,11 @@
 ghost use Rattle.std.specs.Prelude.{◌≡◌, ◌≢◌, ◌<◌, ◌≤◌, ℕ, List, All, None, IfOk, IfSome, length, find, option_copied, MatchOption};
 ghost use Rattle.autocoder.specs.Listing.{glyphs_of};
 ghost use Rattle.autocoder_layout.specs.Names.{address_of, base_number, defines, value_in, value_with, within};
-ghost use Rattle.autocoder_statements.specs.declared.expressions.Base.{Base};
-ghost use Rattle.autocoder_statements.specs.Expressions.{address};
-ghost use Rattle.autocoder_statements.specs.Limits.{longest_text};
+ghost use Rattle.autocoder_statements.specs.{
+  declared.expressions.Base.{Base},
+  Expressions.{address},
+  Limits.{longest_text},
+};
 ghost use Rattle.run_traces.specs.Addresses.{NamesPosition, position_at, position_by, position_named};
 
 use crate::names::Names;

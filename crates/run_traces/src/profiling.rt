@@ -2,12 +2,13 @@
 
 ghost use Rattle.std.specs.Prelude.{◌≡◌, ◌<◌, ◌≤◌, ◌++◌, length, string_bytes, option_copied, None, IfOk, OnOk};
 ghost use Rattle.core_store.specs.Storage.{largest_size};
-ghost use Rattle.machine.specs.Run.{State, loaded};
-ghost use Rattle.machine.specs.Standings.{standing_of};
+ghost use Rattle.machine.specs.{Run.{State, loaded}, Standings.{standing_of}};
 ghost use Rattle.units.specs.declared.profiles.Profile.TheVariants.{Selecting};
-ghost use Rattle.run_traces.specs.Ends.{ended};
-ghost use Rattle.run_traces.specs.Profiles.{IsCounted, attempts_line, began_at, counts_shown, first_at, place_columns, place_shown, places_shown, profiled, right_text, tenths_of_percent, tenths_words};
-ghost use Rattle.run_traces.specs.Shown.{left};
+ghost use Rattle.run_traces.specs.{
+  Ends.{ended},
+  Profiles.{IsCounted, attempts_line, began_at, counts_shown, first_at, place_columns, place_shown, places_shown, profiled, right_text, tenths_of_percent, tenths_words},
+  Shown.{left},
+};
 
 use crate::accounts::Account;
 use crate::counted_cards::push_source;

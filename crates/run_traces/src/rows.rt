@@ -1,7 +1,9 @@
 //! How storage is shown, in rows of fifty positions.
 
-ghost use Rattle.std.specs.Prelude.{◌≡◌, ◌+◌, ◌-◌, ◌*◌, ◌<◌, ◌≤◌, ◌++◌, ◌==◌, length, map, IfOk, OnOk};
-ghost use Rattle.std.specs.List.{list_all};
+ghost use Rattle.std.specs.{
+  Prelude.{◌≡◌, ◌+◌, ◌-◌, ◌*◌, ◌<◌, ◌≤◌, ◌++◌, ◌==◌, length, map, IfOk, OnOk},
+  List.{list_all},
+};
 ghost use Rattle.core_store.specs.Storage.{codes_from, largest_size, marks_from};
 ghost use Rattle.run_traces.specs.Rows.{blank_shown, has_mark, is_blank_at, is_blank_row, mark_shown, marks_shown, row_length, row_lines, row_shown, rows_shown};
 

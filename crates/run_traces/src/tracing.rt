@@ -1,13 +1,17 @@
 //! The trace of a run.
 
 ghost use Rattle.std.specs.Prelude.{◌≡◌, ◌+◌, ◌-◌, ◌<◌, ◌≤◌, ◌++◌, ◌&&◌, ◌||◌, ℕ, List, [], nat_le, nat_lt, false, length, None, if◌then◌else◌, option_copied, IfOk, OnOk};
-ghost use Rattle.machine.specs.Run.{after, is_checked, loaded, step, most_instructions};
-ghost use Rattle.machine.specs.Standings.{standing_of};
+ghost use Rattle.machine.specs.{
+  Run.{after, is_checked, loaded, step, most_instructions},
+  Standings.{standing_of},
+};
 ghost use Rattle.units.specs.declared.profiles.Profile.TheVariants.{Selecting};
-ghost use Rattle.run_traces.specs.Fields.{attempt_shown};
-ghost use Rattle.run_traces.specs.Ends.{ended};
-ghost use Rattle.run_traces.specs.Reports.{report_line};
-ghost use Rattle.run_traces.specs.Traces.{is_shown, lines_shown, traced};
+ghost use Rattle.run_traces.specs.{
+  Fields.{attempt_shown},
+  Ends.{ended},
+  Reports.{report_line},
+  Traces.{is_shown, lines_shown, traced},
+};
 
 use crate::accounts::Account;
 use crate::ends::{advance, load, run_to_end};

@@ -1,11 +1,9 @@
 //! Lines in pieces, which take no memory.
 
-ghost use Rattle.std.specs.Prelude.{◌≡◌, ◌++◌};
-ghost use Rattle.std.specs.List.{flat_map};
+ghost use Rattle.std.specs.{Prelude.{◌≡◌, ◌++◌}, List.{flat_map}};
 ghost use Rattle.scripts.specs.Pieces.{piece_bytes};
 ghost use Rattle.machine.specs.Standings.{standing_words};
-ghost use Rattle.scripts.specs.Replies.{truth};
-ghost use Rattle.scripts.specs.Sending.{Writes};
+ghost use Rattle.scripts.specs.{Replies.{truth}, Sending.{Writes}};
 
 use crate::sending::put;
 use crate::write_failed::WriteFailed;

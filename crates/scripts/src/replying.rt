@@ -1,10 +1,11 @@
 //! The lines of replies.
 
-ghost use Rattle.std.specs.Prelude.{◌++◌, codes, decimal};
-ghost use Rattle.std.specs.List.{flat_map};
+ghost use Rattle.std.specs.{Prelude.{◌++◌, codes, decimal}, List.{flat_map}};
 ghost use Rattle.machine.specs.Standings.{standing_words};
-ghost use Rattle.scripts.specs.Replies.{bad_line, fault_line, fault_words, job_words, line_of, made_words, queued_words, refusal_line, reply_line, summary_words};
-ghost use Rattle.scripts.specs.Sending.{Writes};
+ghost use Rattle.scripts.specs.{
+  Replies.{bad_line, fault_line, fault_words, job_words, line_of, made_words, queued_words, refusal_line, reply_line, summary_words},
+  Sending.{Writes},
+};
 
 use crate::faults::ScriptFault;
 use crate::pieces::{Piece, put_all, standing, truth};

@@ -2,8 +2,7 @@
 
 ghost use Rattle.std.specs.Prelude.{◌≡◌, ◌≢◌, ◌≤◌, ℕ, IfOk, IfSome, IfNone, decimal, string_bytes};
 ghost use Rattle.units.specs.declared.Switches.{Switches};
-ghost use Rattle.texts.specs.Numbers.{IsNumberOf};
-ghost use Rattle.texts.specs.Switches.{AreSwitchesOf};
+ghost use Rattle.texts.specs.{Numbers.{IsNumberOf}, Switches.{AreSwitchesOf}};
 ghost use Rattle.scripts.specs.Texts.{IsCountOf, IsKindOf, text_of};
 ghost use Rattle.office.specs.declared.commands.Kind.{Kind};
 

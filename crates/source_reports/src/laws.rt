@@ -2,29 +2,35 @@
 
 ghost use Rattle.std.specs.Prelude.{◌≡◌, ◌-◌, ◌⊎◌, ◌||◌, true, List, ℕ, Option, Some, None, is_some, slice_get, slice_index_or};
 ghost use Rattle.cards.specs.declared.decks.Card.{Card};
-ghost use Rattle.autocoder_layout.specs.declared.card_faults.CardFault.{CardFault};
-ghost use Rattle.autocoder_layout.specs.declared.faults.SourceFault.TheVariants.{UnknownName};
-ghost use Rattle.autocoder_statements.specs.Statements.{is_broken, label_field, operation_field, operation_of};
-ghost use Rattle.autocoder_statements.specs.declared.operations.Operation.{Operation};
-ghost use Rattle.autocoder_statements.specs.Mnemonics.{orders, mnemonics, entry, operands_in};
-ghost use Rattle.autocoder_statements.specs.declared.names.Name.{Name};
-ghost use Rattle.autocoder_statements.specs.declared.operand_forms.OperandForms.{OperandForms};
-ghost use Rattle.autocoder_layout.specs.Layout.{nothing};
-ghost use Rattle.autocoder_layout.specs.declared.slots.Slot.{Slot};
-ghost use Rattle.autocoder.specs.Programs.{IsFaultless, AreFaults, laid_for, layout_for};
-ghost use Rattle.autocoder.specs.declared.faults.Faults.{Faults};
-ghost use Rattle.autocoder_listings.specs.Listing.{listing_in};
-ghost use Rattle.autocoder_listings.specs.declared.widths.Width.{Width};
-ghost use Rattle.source_reports.specs.Blocks.{line_at};
-ghost use Rattle.source_reports.specs.Carets.{IsInField, IsStrayAt, IsUnknownTold, IsOnlyNear};
-ghost use Rattle.source_reports.specs.Names.{near_name};
-ghost use Rattle.source_reports.specs.declared.names.Known.{Known};
-ghost use Rattle.source_reports.specs.Places.{broken_column, place_of};
-ghost use Rattle.source_reports.specs.OperandCauses.{cause_of};
-ghost use Rattle.source_reports.specs.OperandStops.{forms_stop};
-ghost use Rattle.source_reports.specs.OperationNames.{near_operation};
-ghost use Rattle.source_reports.specs.Reports.{text_for, Tells};
-ghost use Rattle.source_reports.specs.ToldOperations.{IsOnlyNearName, AreFormsOfRow, IsCaretAtStop};
+ghost use Rattle.autocoder_layout.specs.{
+  declared.card_faults.CardFault.{CardFault},
+  declared.faults.SourceFault.TheVariants.{UnknownName},
+};
+ghost use Rattle.autocoder_statements.specs.{
+  Statements.{is_broken, label_field, operation_field, operation_of},
+  declared.operations.Operation.{Operation},
+  Mnemonics.{orders, mnemonics, entry, operands_in},
+  declared.names.Name.{Name},
+  declared.operand_forms.OperandForms.{OperandForms},
+};
+ghost use Rattle.autocoder_layout.specs.{Layout.{nothing}, declared.slots.Slot.{Slot}};
+ghost use Rattle.autocoder.specs.{
+  Programs.{IsFaultless, AreFaults, laid_for, layout_for},
+  declared.faults.Faults.{Faults},
+};
+ghost use Rattle.autocoder_listings.specs.{Listing.{listing_in}, declared.widths.Width.{Width}};
+ghost use Rattle.source_reports.specs.{
+  Blocks.{line_at},
+  Carets.{IsInField, IsStrayAt, IsUnknownTold, IsOnlyNear},
+  Names.{near_name},
+  declared.names.Known.{Known},
+  Places.{broken_column, place_of},
+  OperandCauses.{cause_of},
+  OperandStops.{forms_stop},
+  OperationNames.{near_operation},
+  Reports.{text_for, Tells},
+  ToldOperations.{IsOnlyNearName, AreFormsOfRow, IsCaretAtStop},
+};
 
 /// The law of reports: the report of a source without faults is its listing with code, and that of
 /// a source for which the assembler returns faults tells these, each in a block, in their order,

@@ -1,8 +1,10 @@
 //! How far the operand field of a card can be read, and what the field should have there.
 
 ghost use Rattle.std.specs.Prelude.{◌≡◌, ◌<◌, ◌≤◌, ◌-◌, if◌then◌else◌, false, length, drop, IfSome, IsTrue};
-ghost use Rattle.autocoder_statements.specs.Limits.{longest_text};
-ghost use Rattle.autocoder_statements.specs.Operands.{operand, is_modifier};
+ghost use Rattle.autocoder_statements.specs.{
+  Limits.{longest_text},
+  Operands.{operand, is_modifier},
+};
 ghost use Rattle.source_reports.specs.OperandStops.{character_at, glyph_at, has_comma, ends_at, farther, operand_end, character_stop, stop_behind, stop_of_one, stop_of_two, form_stop, or_farther, forms_stop, plain_length, address_stop, are_zeros, begins_positive, number_stop, opens_literal, constant_stop, gives_size, size_stop, start_stop, stop_of};
 
 use autocoder_statements::{

@@ -1,9 +1,11 @@
 //! Of an operation that is none: what is known of it.
 
 ghost use Rattle.std.specs.Prelude.{◌≡◌, ◌++◌, length, OnOk};
-ghost use Rattle.source_reports.specs.LeftOut.{advice};
-ghost use Rattle.source_reports.specs.OperationHints.{question_text, near_hint, known_hint, blank_hint, operation_hint};
-ghost use Rattle.source_reports.specs.OperationNames.{near_operation};
+ghost use Rattle.source_reports.specs.{
+  LeftOut.{advice},
+  OperationHints.{question_text, near_hint, known_hint, blank_hint, operation_hint},
+  OperationNames.{near_operation},
+};
 
 use crate::field_hints::{looks_like_comment, push_comment};
 use crate::left_out::advice;

@@ -1,8 +1,7 @@
 //! An address outside the storage: its number, and the size of the storage.
 
 ghost use Rattle.std.specs.Prelude.{◌≡◌, ◌++◌, ◌≤◌, IfSome, Some, decimal, OnOk};
-ghost use Rattle.autocoder_layout.specs.Bounds.{farthest};
-ghost use Rattle.autocoder_layout.specs.Source.{IsInRange};
+ghost use Rattle.autocoder_layout.specs.{Bounds.{farthest}, Source.{IsInRange}};
 ghost use Rattle.autocoder_statements.specs.Ranges.{IsExpressionInRange, IsAdjustmentInRange};
 ghost use Rattle.source_reports.specs.OutsideAddresses.{either_expression, outside_expression, number_text, reached_text, number_hint, outside_hint};
 

@@ -1,9 +1,11 @@
 //! The column of a card under which the caret of its fault stands.
 
 ghost use Rattle.std.specs.Prelude.{◌≡◌, ◌≤◌, ◌<◌, length, not, position, IfSome};
-ghost use Rattle.autocoder_statements.specs.Characters.{is_blank};
-ghost use Rattle.autocoder_statements.specs.Limits.{longest_text};
-ghost use Rattle.autocoder_statements.specs.Statements.{operand_field};
+ghost use Rattle.autocoder_statements.specs.{
+  Characters.{is_blank},
+  Limits.{longest_text},
+  Statements.{operand_field},
+};
 ghost use Rattle.autocoder_layout.specs.Source.{IsInRange};
 ghost use Rattle.source_reports.specs.Places.{stray, broken_column, kind_of, length_in, column_of_second, second_column, address_column, unknown_column, place_column, outside_column, place_of};
 

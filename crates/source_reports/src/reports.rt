@@ -3,8 +3,10 @@
 ghost use Rattle.std.specs.Prelude.{◌≡◌, ◌++◌, length, flat_map, IfOk, OnOk};
 ghost use Rattle.autocoder_layout.specs.Source.{source_of};
 ghost use Rattle.autocoder.specs.Programs.{IsFaulty};
-ghost use Rattle.source_reports.specs.Blocks.{block};
-ghost use Rattle.source_reports.specs.Reports.{faults_for, text_of_faults, text_for};
+ghost use Rattle.source_reports.specs.{
+  Blocks.{block},
+  Reports.{faults_for, text_of_faults, text_for},
+};
 
 use crate::blocks::{push_block, push_sum};
 use crate::source_columns::push_notice;

@@ -1,7 +1,6 @@
 //! The names of customers and the numbers of jobs.
 
-ghost use Rattle.std.specs.Prelude.{◌≡◌};
-ghost use Rattle.std.specs.List.{list_all};
+ghost use Rattle.std.specs.{Prelude.{◌≡◌}, List.{list_all}};
 ghost use Rattle.texts.specs.Names.{is_letter_or_digit, is_name_length, is_customer, is_number};
 
 /// The name of a job: its customer, and the number that the customer gave it.

@@ -1,8 +1,7 @@
 //! Sizes of storage as texts.
 
 ghost use Rattle.std.specs.Prelude.{◌≡◌, ◌≢◌, IfSome, IfNone, decimal};
-ghost use Rattle.core_store.specs.Storage.{positions_of};
-ghost use Rattle.core_store.specs.declared.sizes.Size.{Size};
+ghost use Rattle.core_store.specs.{Storage.{positions_of}, declared.sizes.Size.{Size}};
 
 use crate::numbers::number_of;
 use core_store::Size;

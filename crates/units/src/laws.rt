@@ -2,17 +2,19 @@
 
 ghost use Rattle.std.specs.Prelude.{◌≡◌, ℕ, length, Ok};
 ghost use Rattle.core_store.specs.Storage.{Storage};
-ghost use Rattle.units.specs.declared.carriage.CarriageOrder.{CarriageOrder};
-ghost use Rattle.units.specs.declared.devices.Devices.{Devices};
-ghost use Rattle.units.specs.declared.pockets.Pocket.{Pocket};
-ghost use Rattle.units.specs.declared.units.Units.{Units};
-ghost use Rattle.units.specs.Carriages.{carriage_moved};
-ghost use Rattle.units.specs.Listing.{IsRising};
-ghost use Rattle.units.specs.Pockets.{pocket_chosen};
-ghost use Rattle.units.specs.Printed.{Printed};
-ghost use Rattle.units.specs.Ranges.{AreUnits, HasPrinted, OnlyAdds};
-ghost use Rattle.units.specs.Stacked.{Stacked};
-ghost use Rattle.units.specs.Units.{operated};
+ghost use Rattle.units.specs.{
+  declared.carriage.CarriageOrder.{CarriageOrder},
+  declared.devices.Devices.{Devices},
+  declared.pockets.Pocket.{Pocket},
+  declared.units.Units.{Units},
+  Carriages.{carriage_moved},
+  Listing.{IsRising},
+  Pockets.{pocket_chosen},
+  Printed.{Printed},
+  Ranges.{AreUnits, HasPrinted, OnlyAdds},
+  Stacked.{Stacked},
+  Units.{operated},
+};
 
 /// The law of the ranges: units in range stay in range after every operation and every order to the
 /// carriage.

@@ -1,8 +1,10 @@
 //! Listings: printed lines as a text.
 
-ghost use Rattle.std.specs.Prelude.{◌≡◌, ◌≢◌, ◌≤◌, ◌<◌, ◌+◌, ◌-◌, ◌++◌, ◌∷◌, ℕ, [], length, map, take, replicate, slice_index, vec_len, ◌↔◌, IsTrue, IfOk, IfErr, OnOk};
-ghost use Rattle.std.specs.Vec.{vec_capacity};
-ghost use Rattle.std.specs.Io.KnownBytes.{Appends, Keeps, append_known};
+ghost use Rattle.std.specs.{
+  Prelude.{◌≡◌, ◌≢◌, ◌≤◌, ◌<◌, ◌+◌, ◌-◌, ◌++◌, ◌∷◌, ℕ, [], length, map, take, replicate, slice_index, vec_len, ◌↔◌, IsTrue, IfOk, IfErr, OnOk},
+  Vec.{vec_capacity},
+  Io.KnownBytes.{Appends, Keeps, append_known},
+};
 ghost use Rattle.units.specs.Listing.{shown, blank, text_of, form_feed_between, done_on, added_after, most_added, rendered, IsRising};
 ghost use Rattle.cards.specs.Files.{line_feed};
 ghost use Rattle.units.specs.declared.listing.ListingFault.TheVariants.{Memory, Output};

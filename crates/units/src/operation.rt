@@ -1,8 +1,10 @@
 //! Operations in which several units work together.
 
 ghost use Rattle.std.specs.Prelude.{◌≡◌, ◌≤◌, ◌⊎◌, length, Ok, Err, IsOk, OnOk, OnErr, IfErr};
-ghost use Rattle.core_store.specs.Storage.{Storage};
-ghost use Rattle.core_store.specs.declared.checks.Check.TheVariants.{ReaderEmpty, PunchFull, PrinterFull};
+ghost use Rattle.core_store.specs.{
+  Storage.{Storage},
+  declared.checks.Check.TheVariants.{ReaderEmpty, PunchFull, PrinterFull},
+};
 ghost use Rattle.units.specs.Units.{areas_end, punch_area_end, read_area_end, reader_works, punch_works, printer_works, operated, IsStopped, PunchFails, PrintFails, OperationFails};
 
 use crate::devices::Devices;

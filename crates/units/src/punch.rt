@@ -2,8 +2,10 @@
 
 ghost use Rattle.std.specs.Prelude.{◌≡◌, ◌≤◌, length, take, Ok, Err, OnOk, OnErr, IfErr};
 ghost use Rattle.core_store.specs.declared.checks.Check.TheVariants.{PunchFull};
-ghost use Rattle.units.specs.Pockets.{pocket_chosen};
-ghost use Rattle.units.specs.Units.{punch_area_end, card_punched, IsStopped, PunchFails};
+ghost use Rattle.units.specs.{
+  Pockets.{pocket_chosen},
+  Units.{punch_area_end, card_punched, IsStopped, PunchFails},
+};
 
 use crate::areas::{PUNCH_AREA, codes_at};
 use crate::fault::Fault;

@@ -1,8 +1,10 @@
 //! The card reader.
 
 ghost use Rattle.std.specs.Prelude.{◌≡◌, ◌==◌, ◌<◌, ◌≤◌, false, length, Ok};
-ghost use Rattle.core_store.specs.Storage.{put_codes};
-ghost use Rattle.core_store.specs.declared.checks.Check.TheVariants.{ReaderEmpty};
+ghost use Rattle.core_store.specs.{
+  Storage.{put_codes},
+  declared.checks.Check.TheVariants.{ReaderEmpty},
+};
 ghost use Rattle.units.specs.Units.{read_area_end, card_read, IsStopped};
 
 use crate::areas::{READ_AREA, put_codes};

@@ -1,8 +1,7 @@
 //! The subcommand `convert`.
 
 ghost use Rattle.std.specs.Prelude.{◌≡◌, List, IfOk};
-ghost use Rattle.cards.specs.Decks.{IsDeck};
-ghost use Rattle.cards.specs.declared.Card.{Card};
+ghost use Rattle.cards.specs.{Decks.{IsDeck}, declared.Card.{Card}};
 ghost use Rattle.card_forms.specs.Forms.{IsFileOf, file_of};
 
 use crate::decks::{Named, tell_form_fault};

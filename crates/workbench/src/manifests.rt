@@ -1,8 +1,7 @@
 //! The subcommand `manifest`.
 
 ghost use Rattle.std.specs.Prelude.{◌≡◌, ◌<◌, List, length, IfOk};
-ghost use Rattle.cards.specs.Decks.{IsDeck};
-ghost use Rattle.cards.specs.declared.Card.{Card};
+ghost use Rattle.cards.specs.{Decks.{IsDeck}, declared.Card.{Card}};
 ghost use Rattle.card_forms.specs.Forms.{IsFileOf};
 ghost use Rattle.card_tools.specs.Manifests.{manifest_line};
 ghost use Rattle.workbench.specs.Decks.{form_of};

@@ -5,8 +5,10 @@ ghost use Rattle.command_line.specs.Arguments.{HasArgument, given};
 ghost use Rattle.core_store.specs.Storage.{positions_of};
 ghost use Rattle.texts.specs.Switches.{text_of};
 ghost use Rattle.units.specs.Switches.{AreSeven};
-ghost use Rattle.workbench_arguments.specs.Tasks.{GivesCount, GivesNumber, HasCount, HasNumber, IsSetup, WantsConsole, WantsDump, WantsProfile, WantsTrace};
-ghost use Rattle.workbench_arguments.specs.Values.{IsCount};
+ghost use Rattle.workbench_arguments.specs.{
+  Tasks.{GivesCount, GivesNumber, HasCount, HasNumber, IsSetup, WantsConsole, WantsDump, WantsProfile, WantsTrace},
+  Values.{IsCount},
+};
 
 use crate::complaints::{NO_AFTER, NO_COUNT, NO_FIRST, NO_FROM, NO_LAST};
 use crate::tasks::{Dumping, Setup, Task, Tracing, number};

@@ -1,13 +1,17 @@
 //! The tasks that the arguments ask for.
 
 ghost use Rattle.std.specs.Prelude.{IfOk};
-ghost use Rattle.command_line.specs.Arguments.{HasArgument, given};
-ghost use Rattle.command_line.specs.Plain.{texts};
-ghost use Rattle.command_line.specs.Programs.{AsksFor, wish_as};
+ghost use Rattle.command_line.specs.{
+  Arguments.{HasArgument, given},
+  Plain.{texts},
+  Programs.{AsksFor, wish_as},
+};
 ghost use Rattle.workbench_arguments.specs.Subcommands.{workbench};
 ghost use Rattle.card_forms.specs.Forms.{word_of};
-ghost use Rattle.workbench_arguments.specs.Tasks.{HasEmpty, HasForm, HasKept, HasSigns, HasTabs, IsNarrow, Wants, WantsCompare, WantsConvert, WantsList, WantsManifest, WantsPunch, WantsSequence, WantsSource, WantsTask};
-ghost use Rattle.workbench_arguments.specs.Values.{IsNumeral};
+ghost use Rattle.workbench_arguments.specs.{
+  Tasks.{HasEmpty, HasForm, HasKept, HasSigns, HasTabs, IsNarrow, Wants, WantsCompare, WantsConvert, WantsList, WantsManifest, WantsPunch, WantsSequence, WantsSource, WantsTask},
+  Values.{IsNumeral},
+};
 
 use crate::bench_tasks::{console_task, dump_task, profile_task, trace_task};
 use crate::complaints::{

@@ -110,7 +110,10 @@ fn tell_bad_line<E: Write>(
     errors: &mut E,
 ) -> io::Result<()> {
     let Some(bytes) = bytes_at(rt, script) else {
-        return Ok(());
+        return writeln!(
+            errors,
+            "{script}: line {number} is no command; `bureau apply --help` has their forms"
+        );
     };
     match line_in(&bytes, number) {
         Some(line) => tell_bad(errors, script, &bytes, number, line),

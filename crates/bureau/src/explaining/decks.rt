@@ -5,8 +5,8 @@ use crate::explaining::told::Told;
 use command_line::Input;
 use std::alloc::Global;
 use std::fs::File;
-use std::io;
 use std::io::Write;
+use std::{fs, io};
 use texts::read_up_to;
 
 /// How many bytes of a file are looked at.
@@ -15,8 +15,12 @@ const MOST: u64 = 4_000_000;
 /// The way out of cards that are no cards.
 const PUNCH: &str = "workbench punch makes cards of a text as it is typed";
 
-/// The bytes of a file, as far as they are looked at.
+/// The bytes of a file, as far as they are looked at. A pipe or a device is not read a second time:
+/// it would be waited for.
 pub(crate) fn bytes_at(rt: &HostRuntime, path: &str) -> Option<Vec<u8>> {
+    if !fs::metadata(rt, path).ok()?.is_file() {
+        return None;
+    }
     let file = File::open(rt, path).ok()?;
     read_up_to(rt.alloc(), file, MOST).ok()
 }

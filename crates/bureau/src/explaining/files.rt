@@ -12,6 +12,10 @@ use std::{fs, io};
 /// What is said where nothing hinders the file that is read, so that what is written must fail.
 const OUTPUT: &str = "the output could not be written: its disk is full, or its reader has ended";
 
+/// What is said of a file that could not be written, where its folder is there.
+const UNWRITTEN: &str = "it could not be written: you may not write there, or its disk is full; \
+                         ls -ld and df show which";
+
 /// Prints the row of the help on the fault of a number, as a line behind a name.
 pub(crate) fn tell_fault<E: Write>(errors: &mut E, name: &str, number: u32) -> io::Result<()> {
     write!(errors, "{name}: ")?;
@@ -39,7 +43,9 @@ fn unread_by(kind: ErrorKind) -> &'static str {
 pub(crate) fn unread(rt: &HostRuntime, path: &str) -> Option<&'static str> {
     match fs::metadata(rt, path) {
         Ok(found) if found.is_dir() => return Some("this is a folder; name a file"),
-        Ok(_) => {}
+        Ok(found) if found.is_file() => {}
+        // A pipe or a device would be waited for.
+        Ok(_) => return None,
         Err(error) => return Some(unread_by(error.kind())),
     }
     match File::open(rt, path) {
@@ -61,10 +67,7 @@ pub(crate) fn unwritten(rt: &HostRuntime, path: &str) -> &'static str {
     match fs::metadata(rt, path) {
         Ok(found) if found.is_dir() => "this is a folder; name a file",
         Err(_) if !has_folder(rt, path) => "its folder is not there; make it with mkdir -p",
-        _ => {
-            "it could not be written: you may not write there, or its disk is full; ls -ld and df \
-             show which"
-        }
+        _ => UNWRITTEN,
     }
 }
 
@@ -157,10 +160,7 @@ pub(crate) fn explain_export<E: Write>(
 ) -> io::Result<()> {
     match told {
         Told::Refused(number) => tell_refusal(errors, number),
-        Told::Device => {
-            let why = unwritten(rt, "a file of this folder");
-            writeln!(errors, "this folder: {why}")
-        }
+        Told::Device => writeln!(errors, "a file of this folder: {UNWRITTEN}"),
         _ => explain_file(rt, file, told, errors),
     }
 }
