@@ -8,6 +8,7 @@ use Rattle.cards.specs.Faults.{out_of_memory}
 use Rattle.cards.specs.Numbers.{card_error_number}
 use Rattle.cards.specs.declared.faults.DeckFault.{DeckFault}
 use Rattle.cards.specs.declared.faults.DeckFault.TheVariants as deck
+use Rattle.command_line.specs.Versions.{version_of}
 use Rattle.command_line.specs.declared.faults.Fault.{Fault}
 use Rattle.command_line.specs.declared.faults.Fault.TheVariants as fault
 use Rattle.command_line.specs.declared.statuses.Status.{Status}
@@ -45,10 +46,9 @@ abbrev pub fault_of_deck : DeckFault → Fault
 fault_of_deck deck.TooManyCards = fault.TooManyCards
 fault_of_deck deck.NoMemory = fault.Memory
 
--- the version, and the logic that the program is proved in
+-- the version of the bureau
 abbrev pub version_text : List ℕ
-version_text = codes "bureau 1" ++ line_feed ∷ codes "Rattle logic dac8208d650f15bf"
-    ++ line_feed ∷ []
+version_text = version_of (codes "bureau")
 
 -- the text was printed, or the output failed and the fault of a device was printed
 abbrev pub IsTextShown : List ℕ → Status → Option (List ℕ) → Option (List ℕ) → Option (List ℕ) →

@@ -1,4 +1,4 @@
-//! The texts of the help and the version.
+//! The texts of the help.
 
 ghost use Rattle.std.specs.Prelude.{◌≡◌};
 ghost use Rattle.command_line.specs.Asked.{page_of};
@@ -344,14 +344,6 @@ page in a browser on it: let customers come through a proxy.
 Status 0: COUNT connections were served. Status 1: the port could not be used,
 or there is not enough memory. Status 2: the arguments are not as above. Status
 3: the bureau's file failed. `bureau --help` lists the faults and refusals.
-";
-
-/// The text that `--version` prints: the version, and the logic that the program is proved in.
-/// `cases/check` compares that with what `rt version` prints when the program is tested. The kit's
-/// own name is not there, since kits of one logic prove the same.
-pub(crate) const VERSION: &str = "\
-bureau 1
-Rattle logic dac8208d650f15bf
 ";
 
 /// The help of a subcommand, or the whole help.

@@ -40,6 +40,7 @@ mod subcommands;
 mod tables;
 mod tasks;
 mod telling;
+mod versions;
 
 pub use arguments::Found;
 pub use errors::Unfailing;

@@ -7,9 +7,10 @@ ghost use Rattle.command_line.specs.{
 };
 
 use crate::faults::Fault;
-use crate::help::{VERSION, page};
+use crate::help::page;
 use crate::statuses::Status;
 use crate::subcommands::Subcommand;
+use crate::versions::VERSION;
 use std::io;
 use std::io::Write;
 
@@ -60,7 +61,7 @@ pub fn show_help<W: Write, E: Write>(
     show_text(page(subcommand), output, errors)
 }
 
-/// Writes the version, and the line of the toolchain. An error is the second writer's, on which
+/// Writes the version. An error is the second writer's, on which
 /// nothing can be printed.
 pub fn show_version<W: Write, E: Write>(output: &mut W, errors: &mut E) -> io::Result<Status>
     ensures { IfOk result (λ status. IsTextShown version_text status

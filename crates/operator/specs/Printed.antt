@@ -1,5 +1,6 @@
 -- what the program prints of itself
 use Rattle.std.specs.Prelude.{List, ℕ, Option, Some, None, codes}
+use Rattle.command_line.specs.Versions.{version_of}
 use Rattle.operator.specs.declared.subcommands.Subcommand.{Subcommand}
 use Rattle.operator.specs.declared.subcommands.Subcommand.TheVariants as name
 use Rattle.operator.specs.declared.help.TheConstants.{ARCHIVE_HELP, CHECK_HELP, COPY_HELP, HELP, JOBS_HELP, JOIN_HELP, PART_HELP, WATCH_HELP, WORK_HELP}
@@ -16,6 +17,6 @@ page_of (Some name.Archive) = ARCHIVE_HELP.now
 page_of (Some name.Work) = WORK_HELP.now
 page_of (Some name.Watch) = WATCH_HELP.now
 
--- the text of the version, with the logic that the program is proved in
+-- the text of the version
 abbrev pub version_text : List ℕ
-version_text = codes "operator 1\nRattle logic dac8208d650f15bf\n"
+version_text = version_of (codes "operator")

@@ -4,6 +4,7 @@ ghost use Rattle.std.specs.Prelude.{◌≡◌};
 ghost use Rattle.operator.specs.Printed.{page_of};
 
 use crate::subcommands::Subcommand;
+use command_line::version_of;
 
 /// The text that `--help` prints.
 pub const HELP: &str = "\
@@ -201,11 +202,8 @@ queue. What came and left between two requests is not seen. Status 1: what
 answers is no bureau.
 ";
 
-/// The text that `--version` prints: the version, and the logic that the program is proved in.
-pub const VERSION: &str = "\
-operator 1
-Rattle logic dac8208d650f15bf
-";
+/// The text that `--version` prints.
+pub const VERSION: &str = version_of!("operator");
 
 /// The help of a subcommand, or the whole help.
 pub(crate) fn page(subcommand: Option<Subcommand>) -> &'static str

@@ -1,5 +1,6 @@
 -- what the program prints of itself
 use Rattle.std.specs.Prelude.{List, ℕ, Option, Some, None, codes}
+use Rattle.command_line.specs.Versions.{version_of}
 use Rattle.workbench_arguments.specs.declared.subcommands.Subcommand.{Subcommand}
 use Rattle.workbench_arguments.specs.declared.subcommands.Subcommand.TheVariants as name
 use Rattle.workbench_arguments.specs.declared.help.TheConstants.{CARD_HELP, COMPARE_HELP, CONSOLE_HELP, CONVERT_HELP, DECK_HELP, DUMP_HELP, HELP, LIST_HELP, MANIFEST_HELP, PAGE_HELP, PAGES_HELP, PROFILE_HELP, PUNCH_HELP, SEQUENCE_HELP, SOURCE_HELP, TRACE_HELP}
@@ -23,6 +24,6 @@ page_of (Some name.Deck) = DECK_HELP.now
 page_of (Some name.Pages) = PAGES_HELP.now
 page_of (Some name.Page) = PAGE_HELP.now
 
--- the text of the version, with the logic that the program is proved in
+-- the text of the version
 abbrev pub version_text : List ℕ
-version_text = codes "workbench 1\nRattle logic dac8208d650f15bf\n"
+version_text = version_of (codes "workbench")

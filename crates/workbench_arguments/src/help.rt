@@ -4,6 +4,7 @@ ghost use Rattle.std.specs.Prelude.{◌≡◌};
 ghost use Rattle.workbench_arguments.specs.Printed.{page_of};
 
 use crate::subcommands::Subcommand;
+use command_line::version_of;
 
 /// The text that `--help` prints.
 pub const HELP: &str = "\
@@ -366,11 +367,8 @@ printed and punched, and the SHA-256 of each. It has no script and needs no
 other file.
 ";
 
-/// The text that `--version` prints: the version, and the logic that the program is proved in.
-pub const VERSION: &str = "\
-workbench 1
-Rattle logic dac8208d650f15bf
-";
+/// The text that `--version` prints.
+pub const VERSION: &str = version_of!("workbench");
 
 /// The help of a subcommand, or the whole help.
 pub(crate) fn page(subcommand: Option<Subcommand>) -> &'static str
