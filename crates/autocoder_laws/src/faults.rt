@@ -6,8 +6,8 @@ ghost use Rattle.autocoder_layout.specs.{
   CardFaults.{faults_of},
   Layout.{Laid, IsLayout},
   Source.{has_end, lines_of},
-  declared.faults.SourceFault as source,
 };
+ghost use Rattle.autocoder_layout.specs.declared.faults.SourceFault as source;
 ghost use Rattle.autocoder_laws.specs.Faults.{AreLowest};
 
 /// The law of faults: the faults of a source are, of each card that has any, the one with the

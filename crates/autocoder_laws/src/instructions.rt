@@ -10,8 +10,8 @@ ghost use Rattle.autocoder_statements.specs.{
   declared.operands.Operands.{Operands},
   declared.operand_forms.OperandForms.{OperandForms},
   declared.operations.Instruction.{Instruction},
-  declared.reading.Statement as statement,
 };
+ghost use Rattle.autocoder_statements.specs.declared.reading.Statement as statement;
 ghost use Rattle.autocoder_laws.specs.{Cards.{mnemonic_on}, Instructions.{IsOfForm, IsAssembledAs}};
 
 /// The law of instructions: each mnemonic, in each of its forms, with each last character that it

@@ -17,19 +17,19 @@ ghost use Rattle.office.specs.{
   Numbers.{refusal_number},
   Queued.{QueuedJob},
   declared.refusals.Refusal.{Refusal},
-  declared.replies.Reply as office,
-  declared.replies.Reply.TheVariants as told,
   declared.summaries.Summary.{Summary},
 };
+ghost use Rattle.office.specs.declared.replies.Reply as office;
+ghost use Rattle.office.specs.declared.replies.Reply.TheVariants as told;
 ghost use Rattle.queue_rounds.specs.{
   Answers.{Stands},
   Responses.{IsReplyIn, IsResponse},
   StandingTexts.{IsInStorage},
   declared.replies.Outcome.{Outcome},
-  declared.replies.Outcome.TheVariants as outcome,
-  declared.replies.Passed.TheVariants as passed,
   declared.replies.Reply.{Reply},
 };
+ghost use Rattle.queue_rounds.specs.declared.replies.Outcome.TheVariants as outcome;
+ghost use Rattle.queue_rounds.specs.declared.replies.Passed.TheVariants as passed;
 ghost use Rattle.bureau_laws.specs.Replies.{HasBody, HasCounts, ReadsQueue, ReadsSlice, ReadsStanding, IsAnswer, IsJob, IsListed, IsOfJob, IsRan, stands_told};
 
 /// The law of replies: what the counter writes is read as it was meant. The bytes of each of its replies

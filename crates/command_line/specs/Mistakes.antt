@@ -16,23 +16,19 @@ abbrev pub mistake_of : ErrorKind → Mistake
 mistake_of OutOfMemory = Memory
 mistake_of _ = NoText
 
--- the line on an argument that is no subcommand, with the name that it nearly is
-abbrev pub subcommand_line : List ℕ → List ℕ → Option (List ℕ) → List ℕ
-subcommand_line program argument (Some name) = program ++ (codes ": `" ++ (argument
-    ++ (codes "` is no subcommand; did you mean `" ++ (name ++ codes "`?\n"))))
-subcommand_line program argument None =
-    program ++ (codes ": `" ++ (argument ++ codes "` is no subcommand\n"))
-
--- the line on an argument that is no option, with the option that it nearly is
-abbrev pub option_line : List ℕ → List ℕ → Option (List ℕ) → List ℕ
-option_line program argument (Some name) = program ++ (codes ": `" ++ (argument
-    ++ (codes "` is no option of the subcommand; did you mean `--" ++ (name ++ codes "`?\n"))))
-option_line program argument None =
-    program ++ (codes ": `" ++ (argument ++ codes "` is no option of the subcommand\n"))
+-- the line on an argument that names nothing of a kind, with the name that it nearly is behind the
+-- mark of such names
+abbrev pub name_line : List ℕ → List ℕ → List ℕ → List ℕ → Option (List ℕ) → List ℕ
+name_line program argument kind mark (Some name) = program ++ (codes ": `" ++ (argument
+    ++ (codes "` is no " ++ (kind ++ (codes "; did you mean `" ++ (mark ++ (name
+    ++ codes "`?\n")))))))
+name_line program argument kind mark None =
+    program ++ (codes ": `" ++ (argument ++ (codes "` is no " ++ (kind ++ codes "\n"))))
 
 -- the line on what is wrong with the arguments of a subcommand
 abbrev pub misuse_line : List ℕ → Misuse → List ℕ
-misuse_line program (no_option argument near) = option_line program argument near
+misuse_line program (no_option argument near) =
+    name_line program argument (codes "option of the subcommand") (codes "--") near
 misuse_line program (no_value name) =
     program ++ (codes ": `--" ++ (name ++ codes "` has no value behind it\n"))
 misuse_line program (too_many argument) =
@@ -47,7 +43,7 @@ complaint_line program Memory = program ++ codes ": no memory to read the argume
 complaint_line program NoText = program ++ codes ": an argument is not UTF-8 text\n"
 complaint_line program Nothing = program ++ codes ": there is no subcommand\n"
 complaint_line program (Subcommand argument near) =
-    subcommand_line program argument.now (option_map (λ name. name.now) near)
+    name_line program argument.now (codes "subcommand") [] (option_map (λ name. name.now) near)
 complaint_line program (Arguments it usage) = misuse_line program (misuse_as it)
 complaint_line program (Hyphen argument usage) = program ++ (codes ": `" ++ (argument.now
     ++ codes "` begins with a hyphen; put `--` before the values if it is one\n"))

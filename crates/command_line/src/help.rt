@@ -93,8 +93,7 @@ faults and refusals:
           output or the port could not be   the disk is full; OUT is then as it
           used                              was before; of serve: another
                                             program has the port
-  13      the deck has no card              name a file with cards; refused 13
-                                            is no fault
+  13      the deck has no card              name a file with cards
   30      a card has not 80 columns         fill each line up with blanks to 80
                                             characters; at column 81: the line
                                             is longer, or ends in CR LF (make it

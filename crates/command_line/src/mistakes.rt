@@ -2,7 +2,7 @@
 
 ghost use Rattle.std.specs.{Prelude.{◌≡◌, IfOk, OnOk, option_map}, Io.KnownBytes.{Appends}};
 ghost use Rattle.command_line.specs.{
-  Mistakes.{complaint_line, mistake_message, mistake_status, misuse_line, option_line, subcommand_line, usage_line, usage_of},
+  Mistakes.{complaint_line, mistake_message, mistake_status, misuse_line, name_line, usage_line, usage_of},
   Misuses.{misuse_as},
 };
 
@@ -58,44 +58,28 @@ impl<'a> From<io::Error> for Mistake<'a> {
     }
 }
 
-/// Writes that an argument is no subcommand.
-fn complain_of_subcommand<E: Write>(
-    errors: &mut E,
-    program: &str,
-    argument: &str,
-    near: Option<&str>,
-) -> io::Result<()>
-    ensures { OnOk result (Appends (E.contents errors.old) (E.contents errors.new)
-        (subcommand_line program.now argument.now (option_map (λ name. name.now) near.entry))) }
-{
-    match near {
-        Some(name) => writeln!(
-            errors,
-            "{program}: `{argument}` is no subcommand; did you mean `{name}`?"
-        ),
-        None => writeln!(errors, "{program}: `{argument}` is no subcommand"),
-    }
-}
+/// What an argument with hyphens is none of.
+const OPTION: &str = "option of the subcommand";
 
-/// Writes that an argument is no option.
-fn complain_of_option<E: Write>(
+/// Writes that an argument names nothing of this kind, and the name that it nearly is, with the mark
+/// that stands before such names.
+fn complain_of_name<E: Write>(
     errors: &mut E,
     program: &str,
     argument: &str,
+    kind: &str,
+    mark: &str,
     near: Option<&str>,
 ) -> io::Result<()>
     ensures { OnOk result (Appends (E.contents errors.old) (E.contents errors.new)
-        (option_line program.now argument.now (option_map (λ name. name.now) near.entry))) }
+        (name_line program.now argument.now kind.now mark.now (option_map (λ name. name.now) near.entry))) }
 {
     match near {
         Some(name) => writeln!(
             errors,
-            "{program}: `{argument}` is no option of the subcommand; did you mean `--{name}`?"
+            "{program}: `{argument}` is no {kind}; did you mean `{mark}{name}`?"
         ),
-        None => writeln!(
-            errors,
-            "{program}: `{argument}` is no option of the subcommand"
-        ),
+        None => writeln!(errors, "{program}: `{argument}` is no {kind}"),
     }
 }
 
@@ -105,7 +89,9 @@ fn complain_of_misuse<E: Write>(errors: &mut E, program: &str, misuse: Misuse<'_
         (misuse_line program.now (misuse_as misuse.entry))) }
 {
     match misuse {
-        Misuse::NoOption(argument, near) => complain_of_option(errors, program, argument, near),
+        Misuse::NoOption(argument, near) => {
+            complain_of_name(errors, program, argument, OPTION, "--", near)
+        }
         Misuse::NoValue(name) => writeln!(errors, "{program}: `--{name}` has no value behind it"),
         Misuse::TooMany(argument) => {
             writeln!(errors, "{program}: `{argument}` is one argument too many")
@@ -128,7 +114,7 @@ fn complain<E: Write>(errors: &mut E, program: &str, mistake: Mistake<'_>) -> io
         Mistake::NoText => writeln!(errors, "{program}: an argument is not UTF-8 text"),
         Mistake::Nothing => writeln!(errors, "{program}: there is no subcommand"),
         Mistake::Subcommand(argument, near) => {
-            complain_of_subcommand(errors, program, argument, near)
+            complain_of_name(errors, program, argument, "subcommand", "", near)
         }
         Mistake::Arguments(misuse, _) => complain_of_misuse(errors, program, misuse),
         Mistake::Hyphen(argument, _) => {

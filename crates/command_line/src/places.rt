@@ -59,8 +59,7 @@ impl Place {
             Some((_, kind, more)) => Ok(Place {
                 to_come: more,
                 goes_on: kind.is_several(),
-                awaited: self.awaited,
-                is_behind: self.is_behind,
+                ..self
             }),
             None => Err(Misuse::TooMany(word)),
         }
@@ -71,12 +70,7 @@ impl Place {
         ensures { place_as result
             ≡ record (place_as self) { awaited = option_map (λ name. name.now) awaited.entry } }
     {
-        Place {
-            to_come: self.to_come,
-            goes_on: self.goes_on,
-            awaited,
-            is_behind: self.is_behind,
-        }
+        Place { awaited, ..self }
     }
 
     /// The place behind an option, if it is one of these.
@@ -116,10 +110,8 @@ impl Place {
         ensures { place_as result ≡ record (place_as self) { is_behind = true } }
     {
         Place {
-            to_come: self.to_come,
-            goes_on: self.goes_on,
-            awaited: self.awaited,
             is_behind: true,
+            ..self
         }
     }
 

@@ -8,8 +8,8 @@ ghost use Rattle.clap.specs.{
 ghost use Rattle.command_line.specs.{
   Plain.{texts},
   Tables.{named, subcommand_app, rule_for, with_subcommand_named, IsLocal},
-  declared.tables.Unread.TheVariants as unread,
 };
+ghost use Rattle.command_line.specs.declared.tables.Unread.TheVariants as unread;
 
 use clap::error::ErrorKind;
 use clap::{Arg, ArgAction, ArgMatches, Command};

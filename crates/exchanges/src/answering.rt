@@ -6,8 +6,8 @@ ghost use Rattle.office.specs.Meters.{RisenAtMost};
 ghost use Rattle.http_messages.specs.{
   Requests.{HasRefusingStatus, IsRefusingStatus},
   declared.fault.RequestFault.TheVariants.{NoMemory, ReadFailed},
-  declared.request.Request.TheVariants as request,
 };
+ghost use Rattle.http_messages.specs.declared.request.Request.TheVariants as request;
 ghost use Rattle.exchanges.specs.{
   Answers.{AnswersBroken, IsAnswer, IsOfFault, limit_of},
   Exchanges.{Comes, ComesInEach, ComesOfBroken, TicksForRead},

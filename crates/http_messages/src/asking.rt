@@ -1,11 +1,8 @@
 //! How a target is read.
 
 ghost use Rattle.std.specs.Prelude.{◌≡◌, Some, IfSome, IfNone};
-ghost use Rattle.http_messages.specs.{
-  Parts.{part},
-  Paths.{route_at},
-  declared.routes.Route.TheVariants as route,
-};
+ghost use Rattle.http_messages.specs.{Parts.{part}, Paths.{route_at}};
+ghost use Rattle.http_messages.specs.declared.routes.Route.TheVariants as route;
 ghost use Rattle.office.specs.declared.commands.JobCommand.{JobCommand};
 ghost use Rattle.texts.specs.Numbers.{IsNumberOf};
 ghost use Rattle.http_messages.specs.{

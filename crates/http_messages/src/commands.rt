@@ -2,10 +2,8 @@
 
 ghost use Rattle.std.specs.Prelude.{◌≡◌, ◌≢◌, IfOk};
 ghost use Rattle.cards.specs.Faults.{out_of_memory};
-ghost use Rattle.http_messages.specs.{
-  declared.targets.Target.TheVariants as target,
-  Asking.{AsksOfJobs, IsAskedBy, IsBadDeck, IsOnJob},
-};
+ghost use Rattle.http_messages.specs.Asking.{AsksOfJobs, IsAskedBy, IsBadDeck, IsOnJob};
+ghost use Rattle.http_messages.specs.declared.targets.Target.TheVariants as target;
 
 use crate::request::Request;
 use crate::targets::Target;

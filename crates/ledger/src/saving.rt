@@ -3,11 +3,8 @@
 ghost use Rattle.std.specs.Prelude.{◌≡◌, ◌≤◌, ◌+◌, ◌++◌, ◌<◌, ◌-◌, ℕ, All, List, get_or, length, IfOk, OnOk};
 ghost use Rattle.cards.specs.Decks.{IsDeck};
 ghost use Rattle.machine.specs.Ranges.{IsInRange};
-ghost use Rattle.office.specs.{
-  Jobs.{Job as KnownJob},
-  Kept.{drive_command},
-  declared.commands.JobCommand.TheVariants as command,
-};
+ghost use Rattle.office.specs.{Jobs.{Job as KnownJob}, Kept.{drive_command}};
+ghost use Rattle.office.specs.declared.commands.JobCommand.TheVariants as command;
 ghost use Rattle.units.specs.{
   declared.printer.Line.{Line},
   declared.punch.Punched.{Punched},

@@ -1,12 +1,8 @@
 //! Laws of what a stop leaves of a bureau's files.
 
 ghost use Rattle.std.specs.Prelude.{IsTrue};
-ghost use Rattle.sqlite.specs.{
-  FileStore as store,
-  FileStore.{view},
-  Recovery.{Image},
-  View.{IsClean},
-};
+ghost use Rattle.sqlite.specs.{FileStore.{view}, Recovery.{Image}, View.{IsClean}};
+ghost use Rattle.sqlite.specs.FileStore as store;
 ghost use Rattle.ledger_files.specs.Damage.{IsDamaged};
 
 use sqlite::FileStore;

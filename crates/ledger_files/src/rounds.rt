@@ -3,7 +3,6 @@
 
 ghost use Rattle.std.specs.Prelude.{◌≡◌, ◌≤◌, List, Ok, IfOk, IfErr, IsErrAnd, IsTrue};
 ghost use Rattle.sqlite.specs.{
-  FileStore as store,
   FileStore.{recovers, view},
   Files.{HoldsDatabase, file_state},
   Recovery.{Image},
@@ -12,6 +11,7 @@ ghost use Rattle.sqlite.specs.{
   View.{IsClean, doubt},
   WalFiles.{image_at, outcomes},
 };
+ghost use Rattle.sqlite.specs.FileStore as store;
 ghost use Rattle.sqlite_wal.specs.Reads.{AreClean};
 ghost use Rattle.office.specs.{
   Office.{Office},

@@ -9,8 +9,13 @@ use command_line::{Found, Mistake};
 use texts::number_up_to;
 
 /// What is said of the number of an option that is none, or too great.
-const NO_NUMBER: &str = "--slice must be a number from 1 to 2000, --rounds one from 1 to \
-                         999999999, and --pause one from 1 to 3600";
+fn no_number(name: &str) -> &'static str {
+    match name {
+        "slice" => "--slice must be a number from 1 to 2000",
+        "rounds" => "--rounds must be a number from 1 to 999999999",
+        _ => "--pause must be a number from 1 to 3600",
+    }
+}
 
 /// The number of an option, or another where it is not given.
 pub(crate) fn up_to_or(
@@ -25,7 +30,7 @@ pub(crate) fn up_to_or(
     let Some(text) = found.value(name) else {
         return Ok(other);
     };
-    number_up_to(text, most).ok_or(Mistake::Value(NO_NUMBER))
+    number_up_to(text, most).ok_or(Mistake::Value(no_number(name)))
 }
 
 /// The number of an option, if it is given.
@@ -41,6 +46,6 @@ pub(crate) fn up_to_if(
     };
     match number_up_to(text, most) {
         Some(number) => Ok(Some(number)),
-        None => Err(Mistake::Value(NO_NUMBER)),
+        None => Err(Mistake::Value(no_number(name))),
     }
 }

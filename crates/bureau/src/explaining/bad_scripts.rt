@@ -9,6 +9,9 @@ use std::io;
 use std::io::Write;
 use texts::number_or_zero;
 
+/// What is said of a line with a carriage return at its end.
+const RETURN: &str = "it ends in CR LF, and each line ends in LF alone";
+
 /// The number of cards that follow a line, if it begins a submission.
 fn cards_after(line: &[u8]) -> u32 {
     let Ok(line) = str::from_utf8(line) else {
@@ -88,7 +91,7 @@ fn tell_bad<E: Write>(
             )
         }
         _ if is_unended(bytes, number) => writeln!(errors, "it has no line feed at its end"),
-        [.., b'\r'] => writeln!(errors, "it ends in CR LF, and each line ends in LF alone"),
+        [.., b'\r'] => writeln!(errors, "{RETURN}"),
         _ if is_card(bytes, number) => {
             writeln!(
                 errors,
@@ -131,6 +134,26 @@ fn tell_refusals<E: Write>(refusals: &[bool], errors: &mut E) -> io::Result<()> 
     Ok(())
 }
 
+/// The number of the first line of a text that ends in CR LF.
+fn return_in(bytes: &[u8]) -> Option<u32> {
+    let lines = (1u32..).zip(bytes.split(|byte| *byte == b'\n'));
+    for (number, line) in lines {
+        if let [.., b'\r'] = line {
+            return Some(number);
+        }
+    }
+    None
+}
+
+/// Tells that lines of a script that was read end in CR LF, so that their last value has one more
+/// character.
+fn tell_return<E: Write>(rt: &HostRuntime, script: &str, errors: &mut E) -> io::Result<()> {
+    match bytes_at(rt, script).and_then(|bytes| return_in(&bytes)) {
+        Some(number) => writeln!(errors, "{script}: line {number}: {RETURN}"),
+        None => Ok(()),
+    }
+}
+
 /// Explains why a script was not carried out, or not without refusals, by what the output and the
 /// standard error told.
 pub(crate) fn explain_script<E: Write>(
@@ -149,6 +172,9 @@ pub(crate) fn explain_script<E: Write>(
     match output.last {
         Told::BadLine(number) => tell_bad_line(rt, script, number, errors),
         Told::Fault(number) => explain_file(rt, file, Told::Fault(number), errors),
-        _ => tell_refusals(&output.refusals, errors),
+        _ => {
+            tell_refusals(&output.refusals, errors)?;
+            tell_return(rt, script, errors)
+        }
     }
 }

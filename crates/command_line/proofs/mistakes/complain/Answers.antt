@@ -10,7 +10,7 @@ pub returns-in-NoText : goal.returns-in-NoText
 returns-in-NoText g c = same_text _ _ _ (sym (ap (complaint_line c.args.program.now) c.in-NoText.is)) c.writeln-in-NoText.ensures.bytes
 
 pub returns-in-Subcommand : goal.returns-in-Subcommand
-returns-in-Subcommand g c = same_text _ _ _ (sym (ap (complaint_line c.args.program.now) c.in-Subcommand.is)) c.complain_of_subcommand.ensures
+returns-in-Subcommand g c = same_text _ _ _ (sym (ap (complaint_line c.args.program.now) c.in-Subcommand.is)) c.complain_of_name.ensures
 
 pub returns-in-Nothing : goal.returns-in-Nothing
 returns-in-Nothing g c = same_text _ _ _ (sym (ap (complaint_line c.args.program.now) c.in-Nothing.is)) c.writeln-in-Nothing.ensures.bytes

@@ -5,7 +5,7 @@ use Rattle.command_line.proofs.MistakeLines.{same_text}
 use Rattle.command_line.proofs.mistakes.complain_of_misuse.Goals as goal
 
 pub returns-in-NoOption : goal.returns-in-NoOption
-returns-in-NoOption g c = same_text _ _ _ (sym (ap (λ m. misuse_line c.args.program.now (misuse_as m)) c.in-NoOption.is)) c.complain_of_option.ensures
+returns-in-NoOption g c = same_text _ _ _ (sym (ap (λ m. misuse_line c.args.program.now (misuse_as m)) c.in-NoOption.is)) c.complain_of_name.ensures
 
 pub returns-in-NoValue : goal.returns-in-NoValue
 returns-in-NoValue g c = same_text _ _ _ (sym (ap (λ m. misuse_line c.args.program.now (misuse_as m)) c.in-NoValue.is)) c.writeln.ensures.bytes
