@@ -34,10 +34,11 @@ impl Source {
         path: &str,
     ) -> Result<(Source, Bureau<FileStore<FileFrom<Unknown>>>), OpenFault> {
         let place = Place::find(rt, path)?;
+        // Before the looks: where the log goes meanwhile, they make an empty one.
+        let log = place.log_length(rt);
         if place.has_headless_log(rt) || place.has_torn_log(rt) {
             return Err(OpenFault::Store);
         }
-        let log = place.log_length(rt);
         match open_from(rt, &place.file, Unknown) {
             Ok(bureau) => Ok((Source { place, log }, bureau)),
             Err((fault, kept)) => {
