@@ -1,5 +1,5 @@
 -- What is found of a log behind its header is all of its damage.
-use Rattle.std.proofs.Common.{◌≡◌, ◌≤◌, ℕ, List, length, slice_index, Option, Some, None, MatchOption, inl, inr, refl, sym, ap, subst, ◌∙◌, arith}
+use Rattle.std.proofs.Common.{◌≡◌, ◌≤◌, ℕ, List, length, slice_index, Bool, IsTrue, ◌↔◌, Option, Some, None, MatchOption, inl, inr, refl, sym, ap, subst, ◌∙◌, arith}
 use Rattle.sqlite_wal.specs.Format.{IsSigned, be32}
 use Rattle.sqlite_wal.specs.PageSize.{IsPageSize}
 use Rattle.sqlite_wal.specs.Recovery.{Replays, frame_at, header}
@@ -10,7 +10,7 @@ use Rattle.sqlite_wal.specs.declared.error.Error.TheVariants.{Io, OutOfMemory, C
 use Rattle.sqlite_wal.proofs.RecoveryLemmas.{replays_once}
 use Rattle.sqlite_wal.proofs.FormatLemmas.{be32-part}
 use Rattle.sqlite_wal.proofs.PartLemmas.{slice_index-part}
-use Rattle.ledger_files.specs.Damage.{WasKept, HasHeaderBegun, IsDamaged, IsDamagedAs, IsFull, IsKeptAs}
+use Rattle.ledger_files.specs.Damage.{WasKept, HasGateOpen, HasHeaderBegun, IsTorn, IsDamaged, IsDamagedAs, IsFull, IsKeptAs}
 use Rattle.ledger_files.specs.declared.damage.Damage.{Damage}
 use Rattle.ledger_files.specs.declared.damage.Damage.TheVariants as of
 
@@ -21,6 +21,21 @@ module _ (log : List ℕ) (begun : HasHeaderBegun log) where
 
   pub key_is : (head : List ℕ) → head ≡ header log → slice_index head 16 ≡ slice_index log 16
   key_is head is = ap (λ (b : List ℕ). slice_index b 16) is ∙ slice_index-part log 0 32 16 (omega (arith, begun.0))
+
+  -- recovery takes so many frames, and the gate behind them was looked at
+  pub torn_told : (now : List ℕ) (told frames : ℕ) (torn : Bool) → now ≡ log → told ≡ frames → IsPageSize (be32 log 8)
+      → Replays (be32 log 8) log frames → (IsTrue torn ↔ HasGateOpen now told) → (IsTrue torn ↔ IsTorn log)
+  torn_told now told frames torn is_log is_told size taken gate = (
+    λ is. record {
+      begun = begun;
+      size = size;
+      frames = frames;
+      taken = taken;
+      gate = subst (λ n. HasGateOpen log n) is_told (subst (λ l. HasGateOpen l told) is_log (gate.0 is));
+    },
+    λ is. gate.1 (subst (λ l. HasGateOpen l told) (sym is_log) (subst (λ n. HasGateOpen log n)
+        (replays_once _ _ _ _ is.taken taken ∙ sym is_told) is.gate)),
+  )
 
 module _ (log : List ℕ) (begun : HasHeaderBegun log) (signed : IsSigned (header log)) where
   -- a log that recovery refuses has no damage that could be told

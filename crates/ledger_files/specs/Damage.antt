@@ -61,6 +61,14 @@ IsFirstEnd log frames bound (Some last) =
 abbrev pub WasKept : List ℕ → ℕ → Type 0
 WasKept log frames = HasGateOpen log frames × IsFollowed log frames
 
+-- the log ends in an open gate: that of the frame behind those that recovery takes
+pub record IsTorn (log : List ℕ) : Type 0 where
+  pub begun : HasHeaderBegun log
+  pub size : IsPageSize (be32 log 8)
+  pub frames : ℕ
+  pub taken : Replays (be32 log 8) log frames
+  pub gate : HasGateOpen log frames
+
 -- the header is sound, recovery takes so many frames, and the commit behind them was whole once
 abbrev pub HasDamagedCommit : List ℕ → ℕ → Type 0
 HasDamagedCommit log frames =

@@ -14,7 +14,7 @@ ghost use Rattle.sqlite_wal.specs.{
   Reads.{IsClean, OnlyReads},
   Recovery.{frame_at, header},
 };
-ghost use Rattle.ledger_files.specs.Damage.{HasGateOpen, HasHeaderBegun, IsDamaged, IsDamagedAs, IsFirstEnd, IsFollowed, IsFull, IsKeptAs, WasKept, frames_in};
+ghost use Rattle.ledger_files.specs.Damage.{HasGateOpen, HasHeaderBegun, IsDamaged, IsDamagedAs, IsFirstEnd, IsFollowed, IsFull, IsKeptAs, IsTorn, WasKept, frames_in};
 
 use sqlite_disk::Disk;
 use sqlite_wal::{Error, PageSize, checksum_of, probe_frames};
@@ -295,6 +295,8 @@ fn has_open_end<D: Disk>(alloc: Global, log: &mut D, head: &[u8; 32]) -> Result<
     requires usable { IsTrue (D.Disk.is_usable log.old) }
     requires head { IsClean D.Disk log.old → head.now ≡ header (D.Disk.seen log.old) }
     requires begun { IsClean D.Disk log.old → HasHeaderBegun (D.Disk.seen log.old) }
+    ensures ok { IfOk result (λ torn. IsClean D.Disk log.new
+        → (IsTrue torn ↔ IsTorn (D.Disk.seen log.old))) }
     ensures same { OnlyReads D.Disk log.old log.new }
 {
     let Some(size) = PageSize::new(number_at(head, 8) as usize) else {
@@ -308,6 +310,8 @@ fn has_open_end<D: Disk>(alloc: Global, log: &mut D, head: &[u8; 32]) -> Result<
 /// went while it was written, or it is damaged. Nothing is written.
 pub(crate) fn is_torn<D: Disk>(alloc: Global, log: &mut D) -> Result<bool, Error>
     requires { IsTrue (D.Disk.is_usable log.old) }
+    ensures ok { IfOk result (λ torn. IsClean D.Disk log.new
+        → (IsTrue torn ↔ IsTorn (D.Disk.seen log.old))) }
     ensures same { OnlyReads D.Disk log.old log.new }
 {
     let Some(head) = read_header(log)? else {
