@@ -47,7 +47,7 @@ class Machine:
     def run(self, words, line, seconds):
         ran = subprocess.run([*words, '/bin/sh', '-c', f'export {PLACES}; cd {self.folder} && {line}'], text=True,
                              stdin=subprocess.DEVNULL, stdout=subprocess.PIPE, stderr=subprocess.STDOUT,
-                             errors='replace', timeout=seconds, check=False)
+                             errors='replace', timeout=seconds, env={'PATH': os.environ['PATH']}, check=False)
         return ran.returncode, ran.stdout
 
     def call(self, line, seconds=300):
