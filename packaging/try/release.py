@@ -54,6 +54,6 @@ def later(packages, folder):
                 with open(program, "ab") as file:
                     file.write(b"\n")
         found.append(f"{folder}/{os.path.basename(package)[:-4]}+later.deb")
-        subprocess.run(["dpkg-deb", "-Zgzip", "--root-owner-group", "--build", room, found[-1]], check=True,
-                       stdout=subprocess.DEVNULL)
+        words = ["dpkg-deb", "-Zgzip", "--root-owner-group", "--build", room, found[-1]]
+        subprocess.run(words, stdout=subprocess.DEVNULL, check=True)
     return found
