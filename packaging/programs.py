@@ -7,9 +7,6 @@ import subprocess
 from sources import Unfit
 
 NAMES = ("bureau", "operator", "workbench")
-WHAT = {"bureau": "a punched-card bureau on a simulated IBM 1401",
-        "operator": "what the operator of a bureau does beside it",
-        "workbench": "punched-card decks and sources as people have them"}
 FIRST = re.compile(r"(\w+) (\d+\.\d+\.\d+) \(files of version (\d+)\)")
 CHECKED = "checked build, not proved"
 # What a program says, and then ends, on a processor that it was not built for.
