@@ -43,7 +43,7 @@ def walked(tree):
         folders[:] = [it for it in folders if it not in made]
         for file in files:
             path = os.path.relpath(f"{folder}/{file}", tree)
-            if not any(fnmatch.fnmatch(path, it) for it in at_top):
+            if "/" in path or not any(fnmatch.fnmatch(path, it) for it in at_top):
                 yield path
 
 
