@@ -6,7 +6,7 @@ from programs import NAMES
 # What of the repository, and what of that is not, since it wants the sources.
 TOP = ("README.md", "CHANGELOG.md", "LICENSE-MIT", "LICENSE-APACHE")
 FOLDERS = ("course/", "deploy/", "docs/", "examples/")
-NOT = ("deploy/measure", "deploy/try", "deploy/try-moving", "deploy/try-service", "examples/make")
+NOT = ("deploy/measure", "deploy/try", "examples/make")
 # The documents that become pages for a browser.
 PAGES = re.compile(r"(README|CHANGELOG|docs/[^/]+|docs/profile/[^/]+|course/[^/]+|"
                    r"(examples|deploy)/README)\.md")
@@ -15,7 +15,7 @@ MADE = ("MANIFEST", "COPYRIGHT", "README.first", "SHA256SUMS")
 
 def is_shown(path):
     """Whether a file of the repository is in an archive."""
-    return path not in NOT and (path in TOP or path.startswith(FOLDERS))
+    return not path.startswith(NOT) and (path in TOP or path.startswith(FOLDERS))
 
 
 def manual(name):
