@@ -13,6 +13,18 @@ SECTIONS = ["NAME", "SYNOPSIS", "DESCRIPTION", "SUBCOMMANDS", "VERSION", "SEE AL
 ESCAPES = (("\\(ga", "`"), ("\\(aq", "'"), ("\\(ha", "^"), ("\\(ti", "~"), ("\\-", "-"),
            ("\\&", ""), ("\\e", "\\"))
 
+# Completes a subcommand, and of each the options.
+SCRIPT = """\
+. "$1" || exit
+COMP_WORDS=(NAME "") COMP_CWORD=1
+_NAME
+printf '%s\\n' "${COMPREPLY[@]}"
+for row in "${COMPREPLY[@]}"; do
+    COMP_WORDS=(NAME "$row" --) COMP_CWORD=2
+    _NAME
+    [[ " ${COMPREPLY[*]} " == *' --help '* ]] || exit
+done"""
+
 
 def plain(text):
     for name, sign in ESCAPES:
@@ -71,10 +83,7 @@ def incomplete(file, folder, name):
         yield f"{where}: it is not there"
     elif shutil.which("bash"):
         rows = helped.subcommands(asked(f"{folder}/{name}", "--help"))
-        script = (f'. "$1" || exit; COMP_WORDS=({name} ""); COMP_CWORD=1; _{name}; '
-                  'printf "%s\\n" "${COMPREPLY[@]}"; '
-                  f'for row in "${{COMPREPLY[@]}}"; do COMP_WORDS=({name} "$row" --); COMP_CWORD=2; '
-                  f'_{name}; [[ " ${{COMPREPLY[*]}} " == *" --help "* ]] || exit; done')
+        script = SCRIPT.replace("NAME", name)
         ran = subprocess.run(["bash", "--norc", "-c", script, "bash", file],
                              stdin=subprocess.DEVNULL, stdout=subprocess.PIPE,
                              stderr=subprocess.STDOUT, text=True, check=False)
