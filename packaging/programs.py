@@ -9,7 +9,8 @@ from sources import Unfit
 NAMES = ("bureau", "operator", "workbench")
 FIRST = re.compile(r"(\w+) (\d+\.\d+\.\d+) \(files of version (\d+)\)")
 CHECKED = "checked build, not proved"
-# What a program says, and then ends, on a processor that it was not built for.
+# What a program says, and then ends, on a processor that it was not built for. One for any
+# processor does not say it.
 LACKS = re.compile(rb"lacks a feature of (x86-64-v\d), which this program was built for")
 
 
@@ -44,7 +45,9 @@ class Program:
         self.is_proved = CHECKED not in "\n".join(self.lines)
         found = LACKS.search(self.data)
         # A checked build does not look at its processor.
-        self.level = (found[1].decode() if found else "x86-64") if self.is_proved else "not known"
+        self.level = "not known"
+        if found or self.is_proved and b"lacks a feature of" not in self.data:
+            self.level = found[1].decode() if found else "x86-64"
 
     def digest(self):
         return digest(self.data)
