@@ -1,8 +1,12 @@
 //! What differs first in the rows of a job.
 
-ghost use Rattle.std.specs.Prelude.{◌≡◌};
+ghost use Rattle.std.specs.Prelude.{◌≡◌, map};
+ghost use Rattle.sqlite.specs.{Order.{column}, declared.types.Value.TheVariants.{Blob, Int}};
+ghost use Rattle.sqlite_value.specs.Value.{owned};
+ghost use Rattle.job_checks.specs.Apart.{AreApart, IsApart};
 ghost use Rattle.job_checks.specs.declared.differences.Stop.TheVariants.{Differs, NoMemory};
 
+use crate::cells::value_at;
 use office::Refusal;
 use sqlite::Row;
 use sqlite::types::ValueRef;
@@ -35,9 +39,10 @@ pub enum Found {
         found: i64,
         wanted: i64,
     },
-    /// Another byte at this place, counted from 1.
+    /// Another byte in the column of this name, by its place there, from 0.
     Byte {
-        at: usize,
+        name: &'static str,
+        at: u32,
         found: u8,
         wanted: u8,
     },
@@ -126,40 +131,64 @@ fn column_name(place: Place, column: usize) -> &'static str {
 }
 
 /// The first byte that differs in the column of this name.
-fn byte_apart(name: &'static str, found: &[u8], wanted: &[u8]) -> Found {
+fn byte_apart(name: &'static str, found: &[u8], wanted: &[u8]) -> Found
+    ensures { AreApart found.now wanted.now result }
+{
     if found.len() != wanted.len() {
         return Found::Value { name };
     }
-    for at in 0..found.len() {
-        if found[at] != wanted[at] {
+    for at in 0..u32::MAX {
+        let place = at as usize;
+        if place == found.len() {
+            return Found::Value { name };
+        }
+        if found[place] != wanted[place] {
             return Found::Byte {
-                at: at + 1,
-                found: found[at],
-                wanted: wanted[at],
+                name,
+                at,
+                found: found[place],
+                wanted: wanted[place],
             };
         }
     }
     Found::Value { name }
 }
 
-/// How a row differs in a column.
-pub(crate) fn value_apart(
-    place: Place,
-    row: &Row,
-    wanted: &[ValueRef<'_>],
-    column: usize,
-) -> Found {
-    let name = column_name(place, column);
-    let Some(wanted) = wanted.get(column) else {
-        return Found::Value { name };
-    };
-    match (row.get_ref(column), *wanted) {
-        (Ok(ValueRef::Int(found)), ValueRef::Int(wanted)) => Found::Number {
+/// How a value differs from a number, in the column of this name.
+fn number_apart(name: &'static str, found: ValueRef<'_>, wanted: i64) -> Found
+    ensures { IsApart (owned found.entry) (Int wanted) result }
+{
+    match found {
+        ValueRef::Int(found) => Found::Number {
             name,
             found,
             wanted,
         },
-        (Ok(ValueRef::Blob(found)), ValueRef::Blob(wanted)) => byte_apart(name, found, wanted),
+        _ => Found::Value { name },
+    }
+}
+
+/// How a value differs from bytes, in the column of this name.
+fn bytes_apart(name: &'static str, found: ValueRef<'_>, wanted: &[u8]) -> Found
+    ensures { IsApart (owned found.entry) (Blob wanted.now) result }
+{
+    match found {
+        ValueRef::Blob(found) => byte_apart(name, found, wanted),
+        _ => Found::Value { name },
+    }
+}
+
+/// How a row differs in a column.
+pub(crate) fn value_apart(place: Place, row: &Row, wanted: &[ValueRef<'_>], at: usize) -> Found
+    ensures { IsApart (column row.now at) (column (map owned wanted.now) at) result }
+{
+    let name = column_name(place, at);
+    let Some(wanted) = wanted.get(at) else {
+        return Found::Value { name };
+    };
+    match *wanted {
+        ValueRef::Int(wanted) => number_apart(name, value_at(row, at), wanted),
+        ValueRef::Blob(wanted) => bytes_apart(name, value_at(row, at), wanted),
         _ => Found::Value { name },
     }
 }
