@@ -1,9 +1,9 @@
 //! What differs first in the rows of a job.
 
 ghost use Rattle.std.specs.Prelude.{◌≡◌, map};
-ghost use Rattle.sqlite.specs.{Order.{column}, declared.types.Value.TheVariants.{Blob, Int}};
+ghost use Rattle.sqlite.specs.declared.types.Value.TheVariants.{Blob, Int};
 ghost use Rattle.sqlite_value.specs.Value.{owned};
-ghost use Rattle.job_checks.specs.Apart.{AreApart, IsApart};
+ghost use Rattle.job_checks.specs.Apart.{AreApart, IsApart, NamesColumn, TellsApart, column_name, columns_of};
 ghost use Rattle.job_checks.specs.declared.differences.Stop.TheVariants.{Differs, NoMemory};
 
 use crate::cells::value_at;
@@ -97,7 +97,9 @@ impl From<Difference> for Stop {
 }
 
 /// The names of the columns of a row.
-fn column_names(place: Place) -> &'static [&'static str] {
+fn column_names(place: Place) -> &'static [&'static str]
+    ensures { map (λ name. name.now) result.now ≡ columns_of place }
+{
     match place {
         Place::Job => &[
             "customer",
@@ -123,8 +125,10 @@ fn column_names(place: Place) -> &'static [&'static str] {
 }
 
 /// The name of a column of a row.
-fn column_name(place: Place, column: usize) -> &'static str {
-    match column_names(place).get(column) {
+fn column_name(place: Place, at: usize) -> &'static str
+    ensures { result.now ≡ column_name place at }
+{
+    match column_names(place).get(at) {
         Some(name) => *name,
         None => "row",
     }
@@ -132,7 +136,8 @@ fn column_name(place: Place, column: usize) -> &'static str {
 
 /// The first byte that differs in the column of this name.
 fn byte_apart(name: &'static str, found: &[u8], wanted: &[u8]) -> Found
-    ensures { AreApart found.now wanted.now result }
+    ensures apart { AreApart found.now wanted.now result }
+    ensures named { NamesColumn name.now result }
 {
     if found.len() != wanted.len() {
         return Found::Value { name };
@@ -156,7 +161,8 @@ fn byte_apart(name: &'static str, found: &[u8], wanted: &[u8]) -> Found
 
 /// How a value differs from a number, in the column of this name.
 fn number_apart(name: &'static str, found: ValueRef<'_>, wanted: i64) -> Found
-    ensures { IsApart (owned found.entry) (Int wanted) result }
+    ensures apart { IsApart (owned found.entry) (Int wanted) result }
+    ensures named { NamesColumn name.now result }
 {
     match found {
         ValueRef::Int(found) => Found::Number {
@@ -170,7 +176,8 @@ fn number_apart(name: &'static str, found: ValueRef<'_>, wanted: i64) -> Found
 
 /// How a value differs from bytes, in the column of this name.
 fn bytes_apart(name: &'static str, found: ValueRef<'_>, wanted: &[u8]) -> Found
-    ensures { IsApart (owned found.entry) (Blob wanted.now) result }
+    ensures apart { IsApart (owned found.entry) (Blob wanted.now) result }
+    ensures named { NamesColumn name.now result }
 {
     match found {
         ValueRef::Blob(found) => byte_apart(name, found, wanted),
@@ -178,17 +185,26 @@ fn bytes_apart(name: &'static str, found: ValueRef<'_>, wanted: &[u8]) -> Found
     }
 }
 
+/// How a value differs from the one that is wanted, in the column of this name.
+fn values_apart(name: &'static str, found: ValueRef<'_>, wanted: ValueRef<'_>) -> Found
+    ensures apart { IsApart (owned found.entry) (owned wanted.entry) result }
+    ensures named { NamesColumn name.now result }
+{
+    match wanted {
+        ValueRef::Int(wanted) => number_apart(name, found, wanted),
+        ValueRef::Blob(wanted) => bytes_apart(name, found, wanted),
+        _ => Found::Value { name },
+    }
+}
+
 /// How a row differs in a column.
+#[tactic(auto, unfolding(crate::specs::Apart::TellsApart))]
 pub(crate) fn value_apart(place: Place, row: &Row, wanted: &[ValueRef<'_>], at: usize) -> Found
-    ensures { IsApart (column row.now at) (column (map owned wanted.now) at) result }
+    ensures { TellsApart place row.now (map owned wanted.now) at result }
 {
     let name = column_name(place, at);
-    let Some(wanted) = wanted.get(at) else {
-        return Found::Value { name };
-    };
-    match *wanted {
-        ValueRef::Int(wanted) => number_apart(name, value_at(row, at), wanted),
-        ValueRef::Blob(wanted) => bytes_apart(name, value_at(row, at), wanted),
-        _ => Found::Value { name },
+    match wanted.get(at) {
+        Some(wanted) => values_apart(name, value_at(row, at), *wanted),
+        None => Found::Value { name },
     }
 }
