@@ -1,6 +1,6 @@
 -- a session over a reader and a writer
-use Rattle.std.specs.Prelude.{ℕ, ◌≡◌, ◌≢◌, ◌<◌, ◌≤◌, ◌⊎◌, All, Bool, true, false, List, [], ◌∷◌, ◌++◌, length, take, Option, Some, IfSome}
-use Rattle.std.specs.Io.{StopsAt}
+use Rattle.std.specs.Prelude.{ℕ, ◌≡◌, ◌≢◌, ◌<◌, ◌≤◌, ◌⊎◌, All, Bool, true, false, List, [], ◌∷◌, ◌++◌, length, take, Option, Some, IfSome, OnSome}
+use Rattle.std.specs.Io.{IsEmptyOrEndsWith, StopsAt}
 use Rattle.std.specs.Io.BufRead.{drop_through, take_through}
 use Rattle.std.specs.Io.KnownBytes.{Appends, Consumes, IsAtEnd, Keeps}
 use Rattle.console.specs.Answers.{Answers}
@@ -11,6 +11,24 @@ use Rattle.console.specs.declared.talking.Ended.TheVariants as ended
 -- the most bytes of a line, with its line feed
 abbrev pub longest_line : ℕ
 longest_line = 4096
+
+-- a line ends with this part of it, which has its line feed, or is empty and there is no more; or
+-- there is no line feed in the part
+abbrev pub IsLast : List ℕ → Bool → Type 0
+IsLast part true = IsEmptyOrEndsWith part 10
+IsLast part false = All (λ byte. byte ≢ 10) part
+
+-- a reader had this left and has this: it gave a part of a line, of so many bytes at most, which was
+-- added to what came before it; no byte but the last is a line feed; and whether the line ends there
+pub record IsPart (left rest : Option (List ℕ)) (old new : List ℕ) (room : ℕ) (last : Bool)
+    : Type 0 where
+  pub part : List ℕ
+  pub added : new ≡ old ++ part
+  pub within : length part ≤ room
+  pub given : Consumes left rest part
+  pub stops : StopsAt part 10
+  pub ends : IsLast part last
+  pub over : last ≡ true → length part ≡ 0 → OnSome left (IsAtEnd rest)
 
 -- this is the next line of what a reader has left, and it is read: up to its line feed, or to the
 -- end; it is none that is too long

@@ -1,12 +1,13 @@
 //! A session over a reader and a writer.
 
 ghost use Rattle.std.specs.{
-  Prelude.{◌≡◌, ◌<◌, ◌∷◌, [], IfErr, IfNone, IfOk, IfSome, MatchOption, OnErr, length},
-  Io.KnownBytes.{Consumes, Keeps},
+  Prelude.{◌≡◌, ◌<◌, ◌≤◌, IfErr, IfNone, IfOk, IfSome, MatchOption, OnErr, length},
+  Io.{StartsWith, StopsAt},
+  Io.KnownBytes.{Keeps},
 };
 ghost use Rattle.console.specs.{
   SessionStates.{HasCome},
-  Talks.{HasEnded, HasGiven, IsFailure, IsRead, IsTalk, IsUnread, PutsSo},
+  Talks.{HasEnded, HasGiven, IsFailure, IsLast, IsPart, IsRead, IsTalk, IsUnread, PutsSo},
 };
 
 use crate::answering::answer_line;
@@ -45,25 +46,54 @@ fn ending_for(kind: ErrorKind) -> Ended
     Ended::ReadFailed
 }
 
-/// Reads the next byte, if there is one.
-fn next_byte<R: BufRead>(reader: &mut R) -> Result<Option<u8>, Ended>
-    ensures byte { IfOk result (λ found. IfSome found (λ byte.
-        Consumes (R.remaining reader.old) (R.remaining reader.new) (byte ∷ []))) }
-    ensures end { IfOk result (λ found. IfNone found
-        (HasEnded (R.remaining reader.old) (R.remaining reader.new))) }
+/// What these bytes give of a line: up to its line feed, and so many at most.
+fn part_of(bytes: &[u8], room: usize) -> &[u8]
+    requires { 0 < room }
+    ensures front { StartsWith bytes.now result.now }
+    ensures within { length result.now ≤ room }
+    ensures some { 0 < length bytes.now → 0 < length result.now }
+    ensures stops { StopsAt result.now 10 }
+{
+    let near = &bytes[..bytes.len().min(room)];
+    match near.iter().position(|byte| *byte == b'\n') {
+        Some(place) => &near[..place + 1],
+        None => near,
+    }
+}
+
+/// Whether a line ends with this part of it: with its line feed, or because there is no more.
+fn is_last(part: &[u8]) -> bool
+    requires { StopsAt part.now 10 }
+    ensures { IsLast part.now result }
+{
+    match part.last() {
+        None => true,
+        Some(byte) => *byte == b'\n',
+    }
+}
+
+/// Reads on in a line: what the reader has at hand, and so many bytes at most. Returns whether the
+/// line ends there.
+fn read_part<R: BufRead>(reader: &mut R, line: &mut Vec<u8>, room: usize) -> Result<bool, Ended>
+    requires { 0 < room }
+    ensures part { IfOk result (λ last. IsPart (R.remaining reader.old) (R.remaining reader.new)
+        line.old.items line.new.items room last) }
     ensures failed { IfErr result IsFailure }
     ensures kept { OnErr result (Keeps (R.remaining reader.old) (R.remaining reader.new)) }
 {
-    let mut byte = [0u8];
-    for _try in 0..u64::MAX {
-        match reader.read(&mut byte) {
-            Ok(0) => return Ok(None),
-            Ok(_) => return Ok(Some(byte[0])),
-            Err(error) if error.kind() == ErrorKind::Interrupted => {}
-            Err(error) => return Err(ending_for(error.kind())),
-        }
+    let bytes = match reader.fill_buf() {
+        Ok(bytes) => bytes,
+        Err(error) if error.kind() == ErrorKind::Interrupted => return Ok(false),
+        Err(error) => return Err(ending_for(error.kind())),
+    };
+    let part = part_of(bytes, room);
+    if line.extend_from_slice(part).is_err() {
+        return Err(Ended::NoMemory);
     }
-    Err(Ended::ReadFailed)
+    let last = is_last(part);
+    let count = part.len();
+    reader.consume(count);
+    Ok(last)
 }
 
 /// A line, unless it is empty.
@@ -74,8 +104,8 @@ fn unless_empty(line: Vec<u8>) -> Option<Vec<u8>>
     if line.is_empty() { None } else { Some(line) }
 }
 
-/// Reads the next line, if there is one. It is read byte by byte, so that of a line which is too
-/// long no more is read than of one which is not.
+/// Reads the next line, if there is one. Of a line that is too long no more is read than of one that
+/// is not.
 fn next_line<R: BufRead>(alloc: Global, reader: &mut R) -> Result<Option<Vec<u8>>, Ended>
     ensures line { IfOk result (λ found. IfSome found (λ line.
         IsRead (R.remaining reader.old) line.items (R.remaining reader.new))) }
@@ -86,18 +116,16 @@ fn next_line<R: BufRead>(alloc: Global, reader: &mut R) -> Result<Option<Vec<u8>
         IsUnread ended (R.remaining reader.old) (R.remaining reader.new)) }
 {
     let mut line = Vec::new(alloc);
-    for _byte in 0..LONGEST_LINE {
-        let Some(byte) = next_byte(reader)? else {
+    for _try in 0..u64::MAX {
+        let room = LONGEST_LINE - line.len();
+        if read_part(reader, &mut line, room)? {
             return Ok(unless_empty(line));
-        };
-        if line.push(byte).is_err() {
-            return Err(Ended::NoMemory);
         }
-        if byte == b'\n' {
-            return Ok(Some(line));
+        if line.len() == LONGEST_LINE {
+            return Err(Ended::TooLong);
         }
     }
-    Err(Ended::TooLong)
+    Err(Ended::ReadFailed)
 }
 
 /// Writes bytes, and flushes them. Returns whether that was done.

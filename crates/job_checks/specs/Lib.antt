@@ -1,4 +1,5 @@
 pub mod Again
+pub mod Apart
 pub mod Checks
 pub mod Jobs
 pub mod Kept

@@ -1,5 +1,5 @@
 -- the lines of a report
-use Rattle.std.specs.Prelude.{ℕ, ℤ, ◌++◌, ◌==◌, not, if◌then◌else◌, nat_lt, List, [], ◌∷◌, count_by, flat_map, length, codes, decimal, Option, Some, None}
+use Rattle.std.specs.Prelude.{ℕ, ℤ, ◌+◌, ◌*◌, ◌/◌, ◌%◌, ◌++◌, ◌==◌, not, if◌then◌else◌, nat_lt, List, [], ◌∷◌, count_by, flat_map, length, codes, decimal, Option, Some, None}
 use Rattle.std.specs.Fmt.{signed_decimal}
 use Rattle.bcd.specs.Table.{glyph_of}
 use Rattle.machine.specs.Standings.{standing_words}
@@ -64,18 +64,32 @@ apart_words is wanted = codes " " ++ signed_decimal is ++ codes " and not "
 abbrev pub number_words : List ℕ → ℤ → ℤ → List ℕ
 number_words name is wanted = value_words name ++ apart_words is wanted
 
--- a byte that is not the one that is wanted, at this column
-abbrev pub bytes_words : ℕ → ℕ → ℕ → List ℕ
-bytes_words at is wanted = codes " differs, column " ++ decimal at ++ codes ": " ++ byte_words is
-    ++ codes " and not " ++ byte_words wanted
+-- a byte of a deck, by its place there from 0, and the deck's name: its card and its column, each
+-- from 1, where a card has 80 columns
+abbrev pub card_column : List ℕ → ℕ → List ℕ
+card_column name at = codes "card " ++ decimal (at / 80 + 1) ++ codes " column "
+    ++ decimal (at % 80 + 1) ++ codes " of " ++ name
+
+-- where a byte of a row is, by its place from 0 in the column of this name: of a deck in `jobs` its
+-- card and column, of a page its position in storage, where a page has 100, and of a card or a line
+-- its column, from 1
+abbrev pub place_of_byte : Place → List ℕ → ℕ → List ℕ
+place_of_byte place.Job name at = card_column name at
+place_of_byte (place.Page page) name at = codes "position " ++ decimal (page * 100 + at)
+place_of_byte other name at = codes "column " ++ decimal (at + 1)
+
+-- a byte that is not the one that is wanted
+abbrev pub bytes_words : ℕ → ℕ → List ℕ
+bytes_words is wanted = byte_words is ++ codes " and not " ++ byte_words wanted
 
 -- what was found at a place
-abbrev pub found_words : Found → List ℕ
-found_words found.Nothing = codes " is missing"
-found_words found.OneTooMany = codes " is one too many"
-found_words (found.Number name is wanted) = number_words name.now is wanted
-found_words (found.Byte at is wanted) = bytes_words at is wanted
-found_words (found.Value name) = value_words name.now
+abbrev pub found_words : Place → Found → List ℕ
+found_words place found.Nothing = codes " is missing"
+found_words place found.OneTooMany = codes " is one too many"
+found_words place (found.Number name is wanted) = number_words name.now is wanted
+found_words place (found.Byte name at is wanted) = codes " differs, "
+    ++ place_of_byte place name.now at ++ codes ": " ++ bytes_words is wanted
+found_words place (found.Value name) = value_words name.now
 
 -- a difference of a job
 abbrev pub difference_words : Difference → List ℕ
@@ -87,7 +101,7 @@ difference_words difference.NoStretches = codes "the stretches are none of a job
 difference_words (difference.NotAtHalt at) =
     codes "not at a halt before stretch " ++ decimal at
 difference_words difference.NoProfile = codes "the profile is none"
-difference_words (difference.Row at it) = place_words at ++ found_words it
+difference_words (difference.Row at it) = place_words at ++ found_words at it
 
 -- what a job was granted and has made, and its flags
 abbrev pub made_by : Summary → Made

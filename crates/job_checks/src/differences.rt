@@ -1,8 +1,12 @@
 //! What differs first in the rows of a job.
 
-ghost use Rattle.std.specs.Prelude.{◌≡◌};
+ghost use Rattle.std.specs.Prelude.{◌≡◌, map};
+ghost use Rattle.sqlite.specs.declared.types.Value.TheVariants.{Blob, Int};
+ghost use Rattle.sqlite_value.specs.Value.{owned};
+ghost use Rattle.job_checks.specs.Apart.{AreApart, IsApart, NamesColumn, TellsApart, column_name, columns_of};
 ghost use Rattle.job_checks.specs.declared.differences.Stop.TheVariants.{Differs, NoMemory};
 
+use crate::cells::value_at;
 use office::Refusal;
 use sqlite::Row;
 use sqlite::types::ValueRef;
@@ -35,9 +39,10 @@ pub enum Found {
         found: i64,
         wanted: i64,
     },
-    /// Another byte at this place, counted from 1.
+    /// Another byte in the column of this name, by its place there, from 0.
     Byte {
-        at: usize,
+        name: &'static str,
+        at: u32,
         found: u8,
         wanted: u8,
     },
@@ -92,7 +97,9 @@ impl From<Difference> for Stop {
 }
 
 /// The names of the columns of a row.
-fn column_names(place: Place) -> &'static [&'static str] {
+fn column_names(place: Place) -> &'static [&'static str]
+    ensures { map (λ name. name.now) result.now ≡ columns_of place }
+{
     match place {
         Place::Job => &[
             "customer",
@@ -118,48 +125,86 @@ fn column_names(place: Place) -> &'static [&'static str] {
 }
 
 /// The name of a column of a row.
-fn column_name(place: Place, column: usize) -> &'static str {
-    match column_names(place).get(column) {
+fn column_name(place: Place, at: usize) -> &'static str
+    ensures { result.now ≡ column_name place at }
+{
+    match column_names(place).get(at) {
         Some(name) => *name,
         None => "row",
     }
 }
 
 /// The first byte that differs in the column of this name.
-fn byte_apart(name: &'static str, found: &[u8], wanted: &[u8]) -> Found {
+fn byte_apart(name: &'static str, found: &[u8], wanted: &[u8]) -> Found
+    ensures apart { AreApart found.now wanted.now result }
+    ensures named { NamesColumn name.now result }
+{
     if found.len() != wanted.len() {
         return Found::Value { name };
     }
-    for at in 0..found.len() {
-        if found[at] != wanted[at] {
+    for at in 0..u32::MAX {
+        let place = at as usize;
+        if place == found.len() {
+            return Found::Value { name };
+        }
+        if found[place] != wanted[place] {
             return Found::Byte {
-                at: at + 1,
-                found: found[at],
-                wanted: wanted[at],
+                name,
+                at,
+                found: found[place],
+                wanted: wanted[place],
             };
         }
     }
     Found::Value { name }
 }
 
-/// How a row differs in a column.
-pub(crate) fn value_apart(
-    place: Place,
-    row: &Row,
-    wanted: &[ValueRef<'_>],
-    column: usize,
-) -> Found {
-    let name = column_name(place, column);
-    let Some(wanted) = wanted.get(column) else {
-        return Found::Value { name };
-    };
-    match (row.get_ref(column), *wanted) {
-        (Ok(ValueRef::Int(found)), ValueRef::Int(wanted)) => Found::Number {
+/// How a value differs from a number, in the column of this name.
+fn number_apart(name: &'static str, found: ValueRef<'_>, wanted: i64) -> Found
+    ensures apart { IsApart (owned found.entry) (Int wanted) result }
+    ensures named { NamesColumn name.now result }
+{
+    match found {
+        ValueRef::Int(found) => Found::Number {
             name,
             found,
             wanted,
         },
-        (Ok(ValueRef::Blob(found)), ValueRef::Blob(wanted)) => byte_apart(name, found, wanted),
         _ => Found::Value { name },
+    }
+}
+
+/// How a value differs from bytes, in the column of this name.
+fn bytes_apart(name: &'static str, found: ValueRef<'_>, wanted: &[u8]) -> Found
+    ensures apart { IsApart (owned found.entry) (Blob wanted.now) result }
+    ensures named { NamesColumn name.now result }
+{
+    match found {
+        ValueRef::Blob(found) => byte_apart(name, found, wanted),
+        _ => Found::Value { name },
+    }
+}
+
+/// How a value differs from the one that is wanted, in the column of this name.
+fn values_apart(name: &'static str, found: ValueRef<'_>, wanted: ValueRef<'_>) -> Found
+    ensures apart { IsApart (owned found.entry) (owned wanted.entry) result }
+    ensures named { NamesColumn name.now result }
+{
+    match wanted {
+        ValueRef::Int(wanted) => number_apart(name, found, wanted),
+        ValueRef::Blob(wanted) => bytes_apart(name, found, wanted),
+        _ => Found::Value { name },
+    }
+}
+
+/// How a row differs in a column.
+#[tactic(auto, unfolding(crate::specs::Apart::TellsApart))]
+pub(crate) fn value_apart(place: Place, row: &Row, wanted: &[ValueRef<'_>], at: usize) -> Found
+    ensures { TellsApart place row.now (map owned wanted.now) at result }
+{
+    let name = column_name(place, at);
+    match wanted.get(at) {
+        Some(wanted) => values_apart(name, value_at(row, at), *wanted),
+        None => Found::Value { name },
     }
 }

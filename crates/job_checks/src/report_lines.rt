@@ -1,17 +1,19 @@
 //! The lines of a report.
 
 ghost use Rattle.std.specs.{
-  Prelude.{◌≡◌, ◌++◌, codes, decimal, flat_map, IfOk, OnOk},
+  Prelude.{◌≡◌, ◌+◌, ◌*◌, ◌++◌, codes, decimal, flat_map, IfOk, OnOk},
   Fmt.{signed_decimal},
 };
 ghost use Rattle.machine.specs.Standings.{standing_words};
 ghost use Rattle.office.specs.Numbers.{refusal_number};
-ghost use Rattle.job_checks.specs.Texts.{apart_words, byte_words, bytes_words, difference_words, found_words, job_line, number_words, outcome_words, place_words, report_text, schema_line, schema_lines, schema_name, schema_words, orphan_line, sum_line, summary_words, table_words, value_words};
+ghost use Rattle.job_checks.specs.Texts.{apart_words, byte_words, bytes_words, card_column, difference_words, found_words, job_line, number_words, outcome_words, place_of_byte, place_words, report_text, schema_line, schema_lines, schema_name, schema_words, orphan_line, sum_line, summary_words, table_words, value_words};
 
 use crate::differences::{Difference, Found, Place};
 use crate::reports::{JobReport, Orphan, Outcome, Report, Table};
 use crate::schemas::SchemaDifference;
 use bcd::Code;
+use cards::COLUMNS;
+use core_store::PAGE_SIZE;
 use itoa::Buffer;
 use machine::StandingAt;
 use office::{Refusal, Summary};
@@ -92,29 +94,63 @@ fn push_number_apart(
     push_apart(out, found, wanted)
 }
 
-/// Adds where a byte differs.
-fn push_column(out: &mut Vec<u8>, at: usize) -> Result<(), AllocError>
-    ensures { OnOk result (out.new.items ≡ out.old.items ++ codes " differs, column "
-        ++ decimal at) }
+/// Adds the card and the column of a byte of a deck, and the deck's name.
+fn push_card_column(out: &mut Vec<u8>, name: &str, at: u32) -> Result<(), AllocError>
+    ensures { OnOk result (out.new.items ≡ out.old.items ++ card_column name.now at) }
 {
-    out.extend_from_slice(b" differs, column ")?;
-    push_decimal(out, at)
+    let at = at as usize;
+    push_numbered(out, "card ", at / COLUMNS + 1)?;
+    push_numbered(out, " column ", at % COLUMNS + 1)?;
+    push_named(out, " of ", name)
 }
 
-/// Adds a byte that differs.
-fn push_byte_apart(out: &mut Vec<u8>, at: usize, found: u8, wanted: u8) -> Result<(), AllocError>
-    ensures { OnOk result (out.new.items ≡ out.old.items ++ bytes_words at found wanted) }
+/// Adds the position in storage of a byte of a page.
+fn push_position(out: &mut Vec<u8>, page: u32, at: u32) -> Result<(), AllocError>
+    ensures { OnOk result (out.new.items ≡ out.old.items ++ codes "position "
+        ++ decimal (page * 100 + at)) }
 {
-    push_column(out, at)?;
-    out.extend_from_slice(b": ")?;
+    let first = page as usize * PAGE_SIZE as usize;
+    push_numbered(out, "position ", first + at as usize)
+}
+
+/// Adds where a byte of a row is, by its place in the column of this name.
+fn push_place_of_byte(
+    out: &mut Vec<u8>,
+    place: Place,
+    name: &str,
+    at: u32,
+) -> Result<(), AllocError>
+    ensures { OnOk result (out.new.items ≡ out.old.items ++ place_of_byte place name.now at) }
+{
+    match place {
+        Place::Job => push_card_column(out, name, at),
+        Place::Page(page) => push_position(out, page, at),
+        _ => push_numbered(out, "column ", at as usize + 1),
+    }
+}
+
+/// Adds a byte that differs from the one that is wanted.
+fn push_bytes(out: &mut Vec<u8>, found: u8, wanted: u8) -> Result<(), AllocError>
+    ensures { OnOk result (out.new.items ≡ out.old.items ++ bytes_words found wanted) }
+{
     push_byte(out, found)?;
     out.extend_from_slice(b" and not ")?;
     push_byte(out, wanted)
 }
 
+/// Adds where a byte differs.
+fn push_differing(out: &mut Vec<u8>, place: Place, name: &str, at: u32) -> Result<(), AllocError>
+    ensures { OnOk result (out.new.items ≡ out.old.items ++ codes " differs, "
+        ++ place_of_byte place name.now at ++ codes ": ") }
+{
+    out.extend_from_slice(b" differs, ")?;
+    push_place_of_byte(out, place, name, at)?;
+    out.extend_from_slice(b": ")
+}
+
 /// Adds what was found at a place.
-fn push_found(out: &mut Vec<u8>, found: Found) -> Result<(), AllocError>
-    ensures { OnOk result (out.new.items ≡ out.old.items ++ found_words found) }
+fn push_found(out: &mut Vec<u8>, place: Place, found: Found) -> Result<(), AllocError>
+    ensures { OnOk result (out.new.items ≡ out.old.items ++ found_words place found) }
 {
     match found {
         Found::Nothing => out.extend_from_slice(b" is missing"),
@@ -124,7 +160,15 @@ fn push_found(out: &mut Vec<u8>, found: Found) -> Result<(), AllocError>
             found,
             wanted,
         } => push_number_apart(out, name, found, wanted),
-        Found::Byte { at, found, wanted } => push_byte_apart(out, at, found, wanted),
+        Found::Byte {
+            name,
+            at,
+            found,
+            wanted,
+        } => {
+            push_differing(out, place, name, at)?;
+            push_bytes(out, found, wanted)
+        }
         Found::Value { name } => push_named(out, " differs: ", name),
     }
 }
@@ -163,7 +207,7 @@ fn push_difference(out: &mut Vec<u8>, difference: &Difference) -> Result<(), All
         Difference::NoProfile => out.extend_from_slice(b"the profile is none"),
         Difference::Row(place, found) => {
             push_place(out, *place)?;
-            push_found(out, *found)
+            push_found(out, *place, *found)
         }
     }
 }

@@ -1,30 +1,19 @@
-use Rattle.std.proofs.Common.{◌≡◌, ◌++◌, ◌∷◌, [], IfSome, List, arith, rules, subst, sym, ℕ}
-use Rattle.std.specs.Io.KnownBytes.{Consumes}
-use Rattle.console.specs.Talks.{HasEnded, IsRead}
-use Rattle.console.proofs.LineLemmas.{given_on, last_found, line_ended}
+use Rattle.std.proofs.Common.{◌-◌, arith, Bool, subst}
+use Rattle.console.specs.Talks.{IsPart}
+use Rattle.console.proofs.LineLemmas.{last_found, part_given}
 use Rattle.console.proofs.talking.next_line.Goals as goal
 
-pub returns-in_default-clause-line : goal.returns-in_default-clause-line
-returns-in_default-clause-line g c =
-    let mid = g.R.Read.remaining c.loop-byte.reader in
-    let rest = g.R.Read.remaining c.next_byte.new.reader in
-    let over : HasEnded mid rest = search rules in
-    last_found (λ v. v.items) c.unless_empty.result (g.R.Read.remaining c.args.reader.now) mid rest c.loop-byte.line.items c.loop-byte.invariant.reading over
-    (omega (arith, c.loop-byte.invariant.length, c.loop-byte-test.true)) c.unless_empty.ensures
-
-pub returns-then-is_err-clause-given : goal.returns-then-is_err-clause-given
-returns-then-is_err-clause-given g c =
-    let mid = g.R.Read.remaining c.loop-byte.reader in
-    let rest = g.R.Read.remaining c.next_byte.new.reader in
-    let one = subst (λ found. IfSome found (λ (byte : ℕ). Consumes mid rest (byte ∷ []))) c.in-Some.is c.in_ok-byte.ensures.byte in
-    given_on (g.R.Read.remaining c.args.reader.now) mid rest c.loop-byte.line.items c.in-Some.byte c.loop-byte.invariant.reading one
-
-pub returns-then-byte-eq10-clause-line : goal.returns-then-byte-eq10-clause-line
-returns-then-byte-eq10-clause-line g c =
+pub returns-then-branch-clause-line : goal.returns-then-branch-clause-line
+returns-then-branch-clause-line g c =
     let left = g.R.Read.remaining c.args.reader.now in
-    let mid = g.R.Read.remaining c.loop-byte.reader in
-    let rest = g.R.Read.remaining c.next_byte.new.reader in
-    let one = subst (λ found. IfSome found (λ (byte : ℕ). Consumes mid rest (byte ∷ []))) c.in-Some.is c.in_ok-byte.ensures.byte in
-    let items : c.push.new.self.items ≡ c.loop-byte.line.items ++ c.in-Some.byte ∷ [] = search rules in
-    subst (λ (line : List ℕ). IsRead left line rest) (sym items)
-    (line_ended left mid rest c.loop-byte.line.items c.in-Some.byte c.loop-byte.invariant.reading one (omega (arith, c.loop-byte.invariant.length, c.loop-byte-test.true)) c.if-byte-eq10.true)
+    let mid = g.R.Read.remaining c.loop-try.reader in
+    let rest = g.R.Read.remaining c.read_part.new.reader in
+    let room = 4096 - c.len-room.result in
+    let part = subst (λ (last : Bool). IsPart mid rest c.loop-try.line.items c.read_part.new.line.items room last) c.if-branch.true c.in_ok-read_part.ensures.part in
+    last_found (λ v. v.items) left mid rest c.loop-try.line.items c.read_part.new.line.items room c.loop-try.invariant.reading part c.unless_empty.result
+    (omega (arith, c.loop-try.invariant.short, c.len-room.ensures)) c.unless_empty.ensures
+
+pub returns-then-branch-clause-given : goal.returns-then-branch-clause-given
+returns-then-branch-clause-given g c =
+    part_given (g.R.Read.remaining c.args.reader.now) (g.R.Read.remaining c.loop-try.reader) (g.R.Read.remaining c.read_part.new.reader) c.loop-try.line.items
+    c.read_part.new.line.items (4096 - c.len-room.result) c.loop-try.invariant.reading c.in_ok-read_part.field-0 c.in_ok-read_part.ensures.part

@@ -1,9 +1,9 @@
-use Rattle.std.proofs.Common.{◌≡◌, length}
+use Rattle.std.proofs.Common.{◌<◌, length}
 use Rattle.console.proofs.LineLemmas.{Reading}
 use Rattle.console.proofs.talking.next_line.Given as goal
 
-abbrev pub invariant-loop-byte : goal.invariant-loop-byte
-invariant-loop-byte g l = record {
+abbrev pub invariant-loop-try : goal.invariant-loop-try
+invariant-loop-try g l = record {
   reading : Reading (g.R.Read.remaining l.fn.reader) (g.R.Read.remaining l.reader) l.line.items;
-  length : length l.line.items ≡ l._byte;
+  short : length l.line.items < 4096;
 }
