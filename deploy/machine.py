@@ -1,6 +1,8 @@
 """A Debian that systemd-nspawn boots, and what is shown of it: for scripts that try services and packages."""
 import os
+import signal
 import subprocess
+import sys
 import time
 
 PLACES = 'HOME=/root DEBIAN_FRONTEND=noninteractive PATH=/usr/local/sbin:/usr/local/bin:/usr/sbin:/usr/bin:/sbin:/bin'
@@ -70,7 +72,9 @@ class Machine:
 
 
 def missing_tools():
-    """What these need and is not there, in words; nothing if all is."""
+    """What these need and is not there, in words; nothing if all is. Told to end, a script ends its machine too."""
+    for one in (signal.SIGTERM, signal.SIGHUP):
+        signal.signal(one, lambda *_: sys.exit(1))
     paths = os.environ.get('PATH', '').split(':') + ['/usr/sbin', '/sbin']
     missing = [it for it in ('systemd-nspawn', 'nsenter', 'pgrep')
                if not any(os.access(f'{path}/{it}', os.X_OK) for path in paths)]
