@@ -7,7 +7,7 @@ import subprocess
 from sources import Unfit
 
 NAMES = ("bureau", "operator", "workbench")
-FIRST = re.compile(r"(\w+) (\d+\.\d+\.\d+) \(files of version (\d+)\)")
+FIRST = re.compile(r"(\w+) (\d+\.\d+\.\d+) \(files of version (\d+)\)(?:[,;:] .*)?")
 CHECKED = "checked build, not proved"
 # What a program says, and then ends, on a processor that it was not built for. One for any
 # processor does not say it.
@@ -42,7 +42,7 @@ class Program:
             raise Unfit(f"{self.path} --version does not begin with a line like "
                         f"`{name} 1.0.0 (files of version 4)`")
         self.version, self.file_version = said[2], said[3]
-        self.is_proved = CHECKED not in "\n".join(self.lines)
+        self.is_proved = CHECKED not in "\n".join(self.lines).lower()
         found = LACKS.search(self.data)
         # A checked build does not look at its processor.
         self.level = "not known"

@@ -57,9 +57,13 @@ class Walk:
             here = here.replace(f"localhost:{port}/", f"localhost:{other}/")
         if here.startswith("curl "):
             here = f"curl -sS -m 60 --noproxy '*' {here[5:]}"
-        ran = subprocess.run(["sh", "-c", here], cwd=self.room, stdin=subprocess.DEVNULL,
-                             stdout=subprocess.PIPE, stderr=subprocess.STDOUT, text=True,
-                             timeout=120, check=False)
+        try:
+            ran = subprocess.run(["sh", "-c", here], cwd=self.room, stdin=subprocess.DEVNULL,
+                                 stdout=subprocess.PIPE, stderr=subprocess.STDOUT, text=True,
+                                 timeout=120, check=False)
+        except subprocess.TimeoutExpired:
+            yield f"README: {command}: it does not end"
+            return
         if ran.returncode:
             yield f"README: {command}: status {ran.returncode}: {ran.stdout}"
         elif TOLD.match(command):

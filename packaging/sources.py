@@ -52,12 +52,16 @@ class Sources:
 
     def __init__(self, tree):
         self.tree, self.has_git = tree, os.path.exists(f"{tree}/.git")
+        found = ()
         if self.has_git:
-            paths = git(tree, "ls-files", "-coz", "--exclude-standard").split("\0")
-            found = (it for it in paths if it and os.path.isfile(f"{tree}/{it}"))
-        else:
+            try:
+                found = git(tree, "ls-files", "-coz", "--exclude-standard").split("\0")
+            except (Unfit, OSError):
+                # There is no git, or it does not like whose folder it is.
+                self.has_git = False
+        if not self.has_git:
             found = walked(tree)
-        self.paths = sorted(set(found))
+        self.paths = sorted({it for it in found if it and os.path.isfile(f"{tree}/{it}")})
         self.commit, self.time, self.is_altered = self.look()
 
     def look(self):
