@@ -47,10 +47,13 @@ class Machine:
         return told.stdout.split()[0] if told.stdout else None
 
     def run(self, words, line, seconds):
-        ran = subprocess.run([*words, '/bin/sh', '-c', f'export {PLACES}; cd {self.folder} && {line}'], text=True,
-                             stdin=subprocess.DEVNULL, stdout=subprocess.PIPE, stderr=subprocess.STDOUT,
-                             errors='replace', timeout=seconds, env={'PATH': os.environ['PATH']}, check=False)
-        return ran.returncode, ran.stdout
+        words = [*words, '/bin/sh', '-c', f'export {PLACES}; cd {self.folder} && {line}']
+        try:
+            ran = subprocess.run(words, stdin=subprocess.DEVNULL, stdout=subprocess.PIPE, stderr=subprocess.STDOUT,
+                                 timeout=seconds, env={'PATH': os.environ['PATH']}, check=False)
+        except subprocess.TimeoutExpired as over:
+            return 1, f'{(over.stdout or b"").decode(errors="replace")}no end in {seconds} seconds'
+        return ran.returncode, ran.stdout.decode(errors='replace')
 
     def call(self, line, seconds=300):
         """The status and the output of a line in the booted machine."""
@@ -59,9 +62,9 @@ class Machine:
             return 1, 'no machine'
         return self.run(['nsenter', '-t', leader, '-m', '-u', '-i', '-n', '-p', '--'], line, seconds)
 
-    def call_unbooted(self, line, seconds=300):
+    def call_unbooted(self, line, seconds=600):
         """The same without a boot: no program but those of the line runs."""
-        return self.run([*NSPAWN, '--pipe', '-D', self.root, '--'], line, seconds)
+        return self.run([*NSPAWN, '--pipe', '--as-pid2', '-D', self.root, '--'], line, seconds)
 
     def end(self, word='poweroff'):
         self.call(f'systemctl {word}')
