@@ -6,7 +6,7 @@ from programs import NAMES
 # What of the repository, and what of that is not, since it wants the sources.
 TOP = ("README.md", "CHANGELOG.md", "LICENSE-MIT", "LICENSE-APACHE")
 FOLDERS = ("course/", "deploy/", "docs/", "examples/")
-NOT = ("deploy/measure", "deploy/try", "examples/make")
+NOT = ("deploy/machine.py", "deploy/measure", "deploy/try", "examples/make")
 # The documents that become pages for a browser.
 PAGES = re.compile(r"(README|CHANGELOG|docs/[^/]+|docs/profile/[^/]+|course/[^/]+|"
                    r"(examples|deploy)/README)\.md")
