@@ -9,9 +9,10 @@ from sources import Unfit
 NAMES = ("bureau", "operator", "workbench")
 FIRST = re.compile(r"(\w+) (\d+\.\d+\.\d+) \(files of version (\d+)\)(?:[,;:] .*)?")
 CHECKED = "checked build, not proved"
-# What a program says, and then ends, on a processor that it was not built for. One for any
-# processor does not say it.
-LACKS = re.compile(rb"lacks a feature of (x86-64-v\d), which this program was built for")
+# Of what a program says, and then ends, on a processor that it was not built for: "this machine
+# lacks a feature of x86-64-v2, which this program was built for". The compiler cuts the sentence
+# into words of its own. One for any processor does not say it.
+LACKS = re.compile(rb"(x86-64-v\d), which")
 
 
 def asked(program, *words):
@@ -46,7 +47,7 @@ class Program:
         found = LACKS.search(self.data)
         # A checked build does not look at its processor.
         self.level = "not known"
-        if found or self.is_proved and b"lacks a feature of" not in self.data:
+        if found or self.is_proved:
             self.level = found[1].decode() if found else "x86-64"
 
     def digest(self):
