@@ -22,9 +22,9 @@ mod sums;
 mod words;
 mod zeros;
 
-pub use bases::modify;
+pub use bases::{modify, modify_clear};
 pub use decimal::spelled_is_read;
 pub use operands::{Counts, counts_are_of_fields};
-pub use ranks::{compare, compare_at_once, order_is_by_the_first_difference};
-pub use sums::{add, add_at_once, subtract, subtract_at_once};
-pub use zeros::{zero_add, zero_subtract};
+pub use ranks::{compare, compare_clear, order_is_by_the_first_difference};
+pub use sums::{add, add_clear, subtract, subtract_clear};
+pub use zeros::{zero_add, zero_add_clear, zero_subtract, zero_subtract_clear};

@@ -1,10 +1,10 @@
 //! The number of characters that arithmetic reads.
 
 ghost use Rattle.std.specs.Prelude.{◌≡◌, ◌≤◌, ℕ, false, IfOk, IfSome, Ok};
-ghost use Rattle.core_store.specs.{Storage.{Storage}, Operands.{is_overlapping}};
+ghost use Rattle.core_store.specs.{Storage.{Storage}, Operands.{is_overlapping, AreClear}};
 ghost use Rattle.arith.specs.Operands.{counts_at, counts_apart, AreCounts, AreOfFields};
 
-use core_store::{Check, Core, are_inside, check_inside, cut_length, field_length, overlaps};
+use core_store::{Check, Core, check_inside, cut_length, field_length, overlaps};
 
 /// The number of characters read at A and at B.
 #[derive(Clone, Copy, Debug, PartialEq, Eq)]
@@ -44,18 +44,16 @@ pub fn counts_apart<C: Core>(core: &C, a: u16, b: u16) -> Result<Counts, Check>
     Ok(counts)
 }
 
-/// The same counts, found at once where sixteen characters end at each position and the B field has
-/// at most that many. `None` says nothing about the fields.
+/// The same counts, of fields clear of position 000, if the B field has at most sixteen characters.
+/// `None` says nothing about the fields.
 #[inline(always)]
 #[tactic(auto, unfolding(crate::specs::Operands::counts_at))]
-pub fn near_counts<C: Core>(core: &C, a: u16, b: u16) -> Option<Counts>
+pub fn clear_counts<C: Core>(core: &C, a: u16, b: u16) -> Option<Counts>
+    requires { AreClear (C.cells core.now) a b }
     ensures counts { IfSome result (λ counts. counts_at (C.cells core.now) a b ≡ Ok counts) }
     ensures known { IfSome result (λ counts. AreCounts (C.cells core.now) a b counts.a counts.b) }
-    ensures room { IfSome result (λ counts. (15 ≤ a) × (15 ≤ b) × (counts.b ≤ 16)) }
+    ensures few { IfSome result (λ counts. counts.b ≤ 16) }
 {
-    if !are_inside(core, a, b) || a < 15 || b < 15 {
-        return None;
-    }
     let b_count = core.near_length(b);
     if b_count > 16 {
         return None;
@@ -66,16 +64,17 @@ pub fn near_counts<C: Core>(core: &C, a: u16, b: u16) -> Option<Counts>
     })
 }
 
-/// The same, for an operation that writes to the field at B while it reads at A, where it overwrites
-/// no character of A before it is read. `None` says nothing about the fields.
+/// The same, for an operation that writes to the field at B while it reads at A, where it
+/// overwrites no character of A before it is read. `None` says nothing about the fields.
 #[inline(always)]
-pub fn near_counts_apart<C: Core>(core: &C, a: u16, b: u16) -> Option<Counts>
+pub fn clear_counts_apart<C: Core>(core: &C, a: u16, b: u16) -> Option<Counts>
+    requires { AreClear (C.cells core.now) a b }
     ensures counts { IfSome result (λ counts. counts_at (C.cells core.now) a b ≡ Ok counts) }
     ensures known { IfSome result (λ counts. AreCounts (C.cells core.now) a b counts.a counts.b) }
     ensures room { IfSome result (λ counts. (15 ≤ a) × (15 ≤ b) × (counts.b ≤ 16)) }
     ensures apart { IfSome result (λ counts. is_overlapping a b counts.a ≡ false) }
 {
-    let counts = near_counts(core, a, b)?;
+    let counts = clear_counts(core, a, b)?;
     if overlaps(a, b, counts.a) {
         return None;
     }

@@ -5,11 +5,15 @@ ghost use Rattle.std.specs.{
   Simd.Lanes.{mask_l, zip2},
 };
 ghost use Rattle.bcd.specs.Table.{rank_of};
-ghost use Rattle.core_store.specs.{Doing.{Does}, Storage.{code_at, codes_ending}};
+ghost use Rattle.core_store.specs.{
+  Doing.{Does, DoesAtOrLeaves, DoesOrLeaves},
+  Operands.{AreClear},
+  Storage.{code_at, codes_ending},
+};
 ghost use Rattle.arith.specs.{Operands.{AreCounts}, Order.{order, IsOrder, compared, comparison}};
 
-use crate::operands::{Counts, counts_at, near_counts};
-use core_store::{Check, Compared, Core, Registers};
+use crate::operands::{Counts, clear_counts, counts_at};
+use core_store::{Check, Compared, Core, Registers, are_clear};
 use std::simd::prelude::*;
 
 /// The rank of the character at a position.
@@ -110,22 +114,34 @@ fn near_comparison<C: Core>(core: &C, a: u16, b: u16, counts: Counts) -> Compare
     }
 }
 
-/// Compares as `compare` does, at most sixteen characters, all at once, of fields that end at
-/// position 15 or later. Returns whether it did; if not, nothing is changed.
+/// Compares as `compare` does, at most sixteen characters, all at once, of fields that end at A and
+/// B, clear of position 000. Returns whether it did; if not, nothing is changed.
 #[inline(always)]
 #[tactic(auto, unfolding(crate::specs::Order::compared))]
-pub fn compare_at_once<C: Core>(core: &C, registers: &mut Registers) -> bool
-    ensures done { result ≡ true → compared (C.cells core.now) registers.old
-        ≡ Ok (C.cells core.now, registers.new) }
-    ensures unchanged { result ≡ false → registers.new ≡ registers.old }
+pub fn compare_clear<C: Core>(core: &C, registers: &mut Registers, a: u16, b: u16) -> bool
+    requires { AreClear (C.cells core.now) a b }
+    ensures { DoesAtOrLeaves result (C.cells core.now) registers.old a b
+        (C.cells core.now) registers.new compared }
 {
-    let Registers { a, b, .. } = *registers;
-    let Some(counts) = near_counts(core, a, b) else {
+    let Some(counts) = clear_counts(core, a, b) else {
         return false;
     };
     registers.compare = near_comparison(core, a, b, counts);
-    registers.lower(counts.a, counts.b);
+    registers.pass(a, counts.a, b, counts.b);
     true
+}
+
+/// Compares so if the fields at registers A and B are clear of position 000.
+#[inline(always)]
+fn compare_near<C: Core>(core: &C, registers: &mut Registers) -> bool
+    ensures { DoesOrLeaves result (C.cells core.now) registers.old
+        (C.cells core.now) registers.new compared }
+{
+    let Registers { a, b, .. } = *registers;
+    if !are_clear(core, a, b) {
+        return false;
+    }
+    compare_clear(core, registers, a, b)
 }
 
 /// Compares the cut at A with the B field, and sets the indicator. Storage is unchanged. Fails with
@@ -134,7 +150,7 @@ pub fn compare<C: Core>(core: &mut C, registers: &mut Registers) -> Result<(), C
     ensures { Does result (C.cells core.old) registers.old
         (C.cells core.new) registers.new compared }
 {
-    if compare_at_once(core, registers) {
+    if compare_near(core, registers) {
         return Ok(());
     }
     compare_far(core, registers)

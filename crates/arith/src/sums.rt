@@ -2,18 +2,18 @@
 
 ghost use Rattle.std.specs.Prelude.{◌≡◌, ◌+◌, ◌-◌, ◌<◌, ◌≤◌, ℕ, false, true, length, Ok};
 ghost use Rattle.core_store.specs.{
-  Doing.{Does, DoesOrLeaves},
+  Doing.{Does, DoesAtOrLeaves, DoesOrLeaves},
   Storage.{codes_ending, put_codes},
-  Operands.{is_overlapping},
+  Operands.{is_overlapping, AreClear},
 };
 ghost use Rattle.arith.specs.{Operands.{AreCounts}, Sums.{added, sum_codes, sum_overflows}};
 
 use crate::decimal::{is_number, sign_zone};
 use crate::joining::{Joined, join};
 use crate::lanes::{greater, is_over, parts, signed, sum, write_digits};
-use crate::operands::{Counts, counts_apart, near_counts_apart};
+use crate::operands::{Counts, clear_counts_apart, counts_apart};
 use crate::words::difference;
-use core_store::{Check, Core, Registers, is_minus, last_of};
+use core_store::{Check, Core, Registers, are_clear, is_minus, last_of};
 use std::simd::prelude::*;
 
 /// Adds the A digits to the B field. Fails as `counts_apart` does, and with check DATA if a
@@ -33,24 +33,25 @@ pub fn subtract<C: Core>(core: &mut C, registers: &mut Registers) -> Result<(), 
     combine(core, registers, true)
 }
 
-/// Adds as `add` does, all digits at once, where that is possible. Returns whether it did; if not,
-/// nothing is changed.
+/// Adds as `add` does, all digits at once where that is possible, fields that end at A and B, clear
+/// of position 000. Returns whether it did; if not, nothing is changed.
 #[inline(always)]
-pub fn add_at_once<C: Core>(core: &mut C, registers: &mut Registers) -> bool
-    ensures { DoesOrLeaves result (C.cells core.old) registers.old
+pub fn add_clear<C: Core>(core: &mut C, registers: &mut Registers, a: u16, b: u16) -> bool
+    requires { AreClear (C.cells core.old) a b }
+    ensures { DoesAtOrLeaves result (C.cells core.old) registers.old a b
         (C.cells core.new) registers.new (added false) }
 {
-    combine_near(core, registers, false)
+    combine_clear(core, registers, a, b, false)
 }
 
-/// Subtracts as `subtract` does, all digits at once, where that is possible. Returns whether it did;
-/// if not, nothing is changed.
+/// Subtracts as `subtract` does, in the same way.
 #[inline(always)]
-pub fn subtract_at_once<C: Core>(core: &mut C, registers: &mut Registers) -> bool
-    ensures { DoesOrLeaves result (C.cells core.old) registers.old
+pub fn subtract_clear<C: Core>(core: &mut C, registers: &mut Registers, a: u16, b: u16) -> bool
+    requires { AreClear (C.cells core.old) a b }
+    ensures { DoesAtOrLeaves result (C.cells core.old) registers.old a b
         (C.cells core.new) registers.new (added true) }
 {
-    combine_near(core, registers, true)
+    combine_clear(core, registers, a, b, true)
 }
 
 /// Adds the A digits to the B field. A subtraction reverses the sign of A.
@@ -65,15 +66,34 @@ fn combine<C: Core>(core: &mut C, registers: &mut Registers, reversed: bool) -> 
     combine_far(core, registers, reversed)
 }
 
-/// Combines as `combine` does, all digits at once, where the B field has at most sixteen digits, or
-/// fifteen if the signs are the same. Returns whether it did; if not, nothing is changed.
+/// Combines as `combine` does if the fields at registers A and B are clear of position 000.
 #[inline(always)]
 fn combine_near<C: Core>(core: &mut C, registers: &mut Registers, reversed: bool) -> bool
     ensures { DoesOrLeaves result (C.cells core.old) registers.old
         (C.cells core.new) registers.new (added reversed) }
 {
     let Registers { a, b, .. } = *registers;
-    let Some(counts) = near_counts_apart(core, a, b) else {
+    if !are_clear(core, a, b) {
+        return false;
+    }
+    combine_clear(core, registers, a, b, reversed)
+}
+
+/// Combines as `combine` does, all digits at once, where the B field has at most sixteen digits, or
+/// fifteen if the signs are the same. Returns whether it did; if not, nothing is changed.
+#[inline(always)]
+fn combine_clear<C: Core>(
+    core: &mut C,
+    registers: &mut Registers,
+    a: u16,
+    b: u16,
+    reversed: bool,
+) -> bool
+    requires { AreClear (C.cells core.old) a b }
+    ensures { DoesAtOrLeaves result (C.cells core.old) registers.old a b
+        (C.cells core.new) registers.new (added reversed) }
+{
+    let Some(counts) = clear_counts_apart(core, a, b) else {
         return false;
     };
     let old = core.near_codes(b);
@@ -88,7 +108,7 @@ fn combine_near<C: Core>(core: &mut C, registers: &mut Registers, reversed: bool
         let (digits, is_greater) = difference(parts_a, parts_b);
         let signed = signed(old, is_greater != minus_b);
         core.put_near_codes(b, write_digits(digits, signed, counts.b));
-        registers.lower(counts.a, counts.b);
+        registers.pass(a, counts.a, b, counts.b);
         return true;
     }
     if counts.b > 15 {
@@ -96,7 +116,7 @@ fn combine_near<C: Core>(core: &mut C, registers: &mut Registers, reversed: bool
     }
     let digits = sum(parts_a, parts_b);
     core.put_near_codes(b, write_digits(digits, old, counts.b));
-    registers.lower(counts.a, counts.b);
+    registers.pass(a, counts.a, b, counts.b);
     registers.overflow |= is_over(last_of(counts.b, u8x16::splat(0), digits), 0);
     true
 }

@@ -1,14 +1,14 @@
 //! Zero and add, zero and subtract.
 
 ghost use Rattle.std.specs.Prelude.{◌≡◌, ℕ, false, true, Ok};
-ghost use Rattle.core_store.specs.Doing.{Does, DoesOrLeaves};
+ghost use Rattle.core_store.specs.{Doing.{Does, DoesAtOrLeaves, DoesOrLeaves}, Operands.{AreClear}};
 ghost use Rattle.arith.specs.Sums.{zero_added};
 
 use crate::decimal::{is_number, sign_zone};
 use crate::joining::{Joined, join};
 use crate::lanes::{digits, is_over, parts, signed, write_digits};
-use crate::operands::{counts_apart, near_counts_apart};
-use core_store::{Check, Core, Registers, is_minus};
+use crate::operands::{clear_counts_apart, counts_apart};
+use core_store::{Check, Core, Registers, are_clear, is_minus};
 
 /// Replaces the B field by the A digits. Fails as `counts_apart` does, and with check DATA if a
 /// character at A has no numeric value.
@@ -27,6 +27,27 @@ pub fn zero_subtract<C: Core>(core: &mut C, registers: &mut Registers) -> Result
     replace(core, registers, true)
 }
 
+/// Zero and add as `zero_add` does, all digits at once where that is possible, of fields that end
+/// at A and B, clear of position 000. Returns whether it did; if not, nothing is changed.
+#[inline(always)]
+pub fn zero_add_clear<C: Core>(core: &mut C, registers: &mut Registers, a: u16, b: u16) -> bool
+    requires { AreClear (C.cells core.old) a b }
+    ensures { DoesAtOrLeaves result (C.cells core.old) registers.old a b
+        (C.cells core.new) registers.new (zero_added false) }
+{
+    replace_clear(core, registers, a, b, false)
+}
+
+/// Zero and subtract as `zero_subtract` does, in the same way.
+#[inline(always)]
+pub fn zero_subtract_clear<C: Core>(core: &mut C, registers: &mut Registers, a: u16, b: u16) -> bool
+    requires { AreClear (C.cells core.old) a b }
+    ensures { DoesAtOrLeaves result (C.cells core.old) registers.old a b
+        (C.cells core.new) registers.new (zero_added true) }
+{
+    replace_clear(core, registers, a, b, true)
+}
+
 /// Replaces the B field by the A digits. A subtraction reverses the sign.
 #[inline(always)]
 fn replace<C: Core>(core: &mut C, registers: &mut Registers, reversed: bool) -> Result<(), Check>
@@ -39,15 +60,34 @@ fn replace<C: Core>(core: &mut C, registers: &mut Registers, reversed: bool) -> 
     replace_far(core, registers, reversed)
 }
 
-/// Replaces as `replace` does, all digits at once, where the B field has at most sixteen
-/// characters. Returns whether it did; if not, nothing is changed.
+/// Replaces as `replace` does if the fields at registers A and B are clear of position 000.
 #[inline(always)]
 fn replace_near<C: Core>(core: &mut C, registers: &mut Registers, reversed: bool) -> bool
     ensures { DoesOrLeaves result (C.cells core.old) registers.old
         (C.cells core.new) registers.new (zero_added reversed) }
 {
     let Registers { a, b, .. } = *registers;
-    let Some(counts) = near_counts_apart(core, a, b) else {
+    if !are_clear(core, a, b) {
+        return false;
+    }
+    replace_clear(core, registers, a, b, reversed)
+}
+
+/// Replaces as `replace` does, all digits at once, where the B field has at most sixteen
+/// characters. Returns whether it did; if not, nothing is changed.
+#[inline(never)]
+fn replace_clear<C: Core>(
+    core: &mut C,
+    registers: &mut Registers,
+    a: u16,
+    b: u16,
+    reversed: bool,
+) -> bool
+    requires { AreClear (C.cells core.old) a b }
+    ensures { DoesAtOrLeaves result (C.cells core.old) registers.old a b
+        (C.cells core.new) registers.new (zero_added reversed) }
+{
+    let Some(counts) = clear_counts_apart(core, a, b) else {
         return false;
     };
     let parts = parts(core.near_codes(a), counts.a);
@@ -56,7 +96,7 @@ fn replace_near<C: Core>(core: &mut C, registers: &mut Registers, reversed: bool
     }
     let signed = signed(core.near_codes(b), is_minus(core, a) != reversed);
     core.put_near_codes(b, write_digits(digits(parts), signed, counts.b));
-    registers.lower(counts.a, counts.b);
+    registers.pass(a, counts.a, b, counts.b);
     true
 }
 

@@ -1,5 +1,5 @@
 -- the positions of operands, and the registers after them
-use Rattle.std.specs.Prelude.{ℕ, ◌+◌, ◌-◌, ◌%◌, nat_lt, nat_le, min, List, length, Bool, true, false, ◌&&◌, if◌then◌else◌, Option, Some, None}
+use Rattle.std.specs.Prelude.{ℕ, ◌+◌, ◌-◌, ◌%◌, ◌<◌, ◌≤◌, nat_lt, nat_le, min, List, length, Bool, true, false, ◌&&◌, if◌then◌else◌, Option, Some, None}
 use Rattle.std.specs.Option.{option_map}
 use Rattle.bcd.specs.declared.Zone.{Zone}
 use Rattle.bcd.specs.declared.Zone.TheVariants.{Bare, A, B, AB}
@@ -17,6 +17,20 @@ lowered_by r a_count b_count = record r { a = lowered r.a a_count; b = lowered r
 -- whether both are positions of storage
 abbrev pub are_inside : Storage → ℕ → ℕ → Bool
 are_inside s a b = nat_lt a (length s) && nat_lt b (length s)
+
+-- whether a and b are positions of storage, with more than sixteen characters up to each
+abbrev pub are_clear : Storage → ℕ → ℕ → Bool
+are_clear s a b = (are_inside s a b && nat_le 16 a) && nat_le 16 b
+
+-- a and b are positions of storage, and position 0 is clear of the sixteen characters that end at
+-- each
+pub record AreClear (s : Storage) (a b : ℕ) : Type 0 where
+  pub a_in : a < length s
+  pub b_in : b < length s
+  pub a_below : a < largest_size
+  pub b_below : b < largest_size
+  pub a_room : 16 ≤ a
+  pub b_room : 16 ≤ b
 
 -- whether characters read at a, from right to left, are written over by those put at b before they
 -- are read

@@ -37,7 +37,9 @@ use bcd::Code;
 pub use checks::Check;
 pub use flags::FlagCore;
 pub use lanes::{last_of, replace_lanes};
-pub use operands::{are_inside, check_inside, cut_length, field_length, is_minus, overlaps};
+pub use operands::{
+    are_clear, are_inside, check_inside, cut_length, field_length, is_minus, overlaps,
+};
 pub use pages::{PAGE_SIZE, changed_pages};
 pub use planes::PlaneCore;
 pub use registers::{Compared, Registers, lower};

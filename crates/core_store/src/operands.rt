@@ -4,7 +4,7 @@ ghost use Rattle.std.specs.Prelude.{◌≡◌, ◌+◌, ◌<◌, ◌≤◌, ℕ,
 ghost use Rattle.bcd.specs.Table.{zone_of};
 ghost use Rattle.core_store.specs.{
   Storage.{code_at, field_length, largest_size},
-  Operands.{are_inside, is_overlapping, cut_length, is_minus_zone},
+  Operands.{are_inside, is_overlapping, cut_length, is_minus_zone, are_clear, AreClear},
   declared.checks.Check.TheVariants.{Address},
 };
 
@@ -19,6 +19,15 @@ pub fn are_inside<C: Core>(core: &C, a: u16, b: u16) -> bool
         × (b < length (C.cells core.now)) × (a < largest_size) × (b < largest_size) }
 {
     a < core.size() && b < core.size()
+}
+
+/// Whether both are positions of the storage, with more than sixteen characters up to each.
+#[inline(always)]
+pub fn are_clear<C: Core>(core: &C, a: u16, b: u16) -> bool
+    ensures clear { result ≡ are_clear (C.cells core.now) a b }
+    ensures known { IsTrue result → AreClear (C.cells core.now) a b }
+{
+    are_inside(core, a, b) && a >= 16 && b >= 16
 }
 
 /// Fails with check ADDRESS unless both are positions of the storage.

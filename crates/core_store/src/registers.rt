@@ -55,4 +55,17 @@ impl Registers {
         self.a = lower(self.a, a_count);
         self.b = lower(self.b, b_count);
     }
+
+    /// Sets A and B to the positions before so many characters that end at `a` and at `b`.
+    #[inline(always)]
+    pub fn pass(&mut self, a: u16, a_count: u16, b: u16, b_count: u16)
+        requires a { a < largest_size }
+        requires b { b < largest_size }
+        requires a_count { a_count ≤ a }
+        requires b_count { b_count ≤ b }
+        ensures { self.new ≡ lowered_by (record self.old { a = a; b = b }) a_count b_count }
+    {
+        self.a = a - a_count;
+        self.b = b - b_count;
+    }
 }

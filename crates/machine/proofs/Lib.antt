@@ -9,4 +9,5 @@ pub mod BranchConditions
 pub mod DecodeLemmas
 pub mod KeptShapes
 pub mod ShapeDecoding
+pub mod KindLemmas
 pub mod Attempts

@@ -20,7 +20,8 @@ use Rattle.machine.specs.declared.operations.Course.TheVariants.{GoesOn}
 use Rattle.machine.specs.declared.branches.Condition.{Condition}
 use Rattle.machine.specs.declared.branches.Condition.TheVariants.{Always}
 use Rattle.machine.specs.declared.branches.PositionTest.{PositionTest}
-use Rattle.machine.specs.declared.named.Operation.TheVariants.{Operate, MoveCarriage, ChoosePocket, NoOperation}
+use Rattle.machine.specs.declared.named.Operation.TheVariants.{OnFields, Branch, BranchOnMarkOrZone, Operate, MoveCarriage, ChoosePocket, NoOperation}
+use Rattle.machine.specs.declared.operations.FieldOperation.TheVariants.{Add, Subtract, Compare, ZeroAdd, ZeroSubtract, ModifyAddress, Move, Load, Suppress, Edit}
 use Rattle.machine.specs.declared.named.Modifier.{Modifier}
 use Rattle.machine.specs.declared.named.Modifier.TheVariants.{Plain, OnCondition, OnCharacter, OnTest, ByOrder, ToPocket}
 use Rattle.machine.specs.declared.named.Decoded.{Decoded}
@@ -191,3 +192,53 @@ names_none n low high h49 h18 h51 h36 h35 h50 h58 h42 h11 h52 h24 h25 h53 h27 h6
 pub names_blank : (n : ℕ) → n ≡ 0 → operation_by n ≡ NoOperation
 unfolding operation_by row_of operations glyph_of
 names_blank n same = ap operation_by same
+
+-- ---- the operations of the usual kinds
+
+pub names_add : (first : ℕ) → is_glyph first (codes "A") ≡ true → operation_by first ≡ OnFields Add
+unfolding operation_by row_of operations
+names_add first named = rw (letter first (codes "A") named) refl
+
+pub names_subtract : (first : ℕ) → is_glyph first (codes "S") ≡ true → operation_by first ≡ OnFields Subtract
+unfolding operation_by row_of operations
+names_subtract first named = rw (letter first (codes "S") named) refl
+
+pub names_compare : (first : ℕ) → is_glyph first (codes "C") ≡ true → operation_by first ≡ OnFields Compare
+unfolding operation_by row_of operations
+names_compare first named = rw (letter first (codes "C") named) refl
+
+pub names_move : (first : ℕ) → is_glyph first (codes "M") ≡ true → operation_by first ≡ OnFields Move
+unfolding operation_by row_of operations
+names_move first named = rw (letter first (codes "M") named) refl
+
+pub names_load : (first : ℕ) → is_glyph first (codes "L") ≡ true → operation_by first ≡ OnFields Load
+unfolding operation_by row_of operations
+names_load first named = rw (letter first (codes "L") named) refl
+
+pub names_zero_add : (first : ℕ) → is_glyph first (codes "?") ≡ true → operation_by first ≡ OnFields ZeroAdd
+unfolding operation_by row_of operations
+names_zero_add first named = rw (letter first (codes "?") named) refl
+
+pub names_zero_subtract : (first : ℕ) → is_glyph first (codes "!") ≡ true → operation_by first ≡ OnFields ZeroSubtract
+unfolding operation_by row_of operations
+names_zero_subtract first named = rw (letter first (codes "!") named) refl
+
+pub names_modify_address : (first : ℕ) → is_glyph first (codes "#") ≡ true → operation_by first ≡ OnFields ModifyAddress
+unfolding operation_by row_of operations
+names_modify_address first named = rw (letter first (codes "#") named) refl
+
+pub names_suppress : (first : ℕ) → is_glyph first (codes "Z") ≡ true → operation_by first ≡ OnFields Suppress
+unfolding operation_by row_of operations
+names_suppress first named = rw (letter first (codes "Z") named) refl
+
+pub names_edit : (first : ℕ) → is_glyph first (codes "E") ≡ true → operation_by first ≡ OnFields Edit
+unfolding operation_by row_of operations
+names_edit first named = rw (letter first (codes "E") named) refl
+
+pub names_branch : (first : ℕ) → is_glyph first (codes "B") ≡ true → operation_by first ≡ Branch
+unfolding operation_by row_of operations
+names_branch first named = rw (letter first (codes "B") named) refl
+
+pub names_branch_on_test : (first : ℕ) → is_glyph first (codes "V") ≡ true → operation_by first ≡ BranchOnMarkOrZone
+unfolding operation_by row_of operations
+names_branch_on_test first named = rw (letter first (codes "V") named) refl

@@ -43,7 +43,7 @@ use Rattle.machine.specs.declared.standings.Standing.{Standing}
 use Rattle.machine.specs.declared.standings.Standing.TheVariants.{Running, Halted, Checked}
 use Rattle.machine.specs.declared.runs.Checkpoint.{Checkpoint}
 use Rattle.machine.specs.Word.{word, word_length, decoded, decoded_of}
-use Rattle.machine.specs.Effect.{Works, attempt, effect, filled, next_of, ordered_by, pocket_by, worked}
+use Rattle.machine.specs.Effect.{Works, attempt, effect, filled, next_of, ordered_by, pocket_by, worked, works_of}
 use Rattle.machine.specs.Run.{State, IsGivenUp, IsWanting, running, step, after, attempts, executed, attempted, is_running, is_checked, risen, standing_after, lines_of, restored, first_card}
 
 -- what an attempt does once the instruction is read
@@ -517,3 +517,7 @@ wanting_first old now done wanting =
     let none : done ≡ 0 = omega (arith, wanting.below) in
     let same : old ≡ now = ap (after old) (sym none) ∙ wanting.reached in
     (sym same, rw same wanting.wanting)
+
+-- a machine that has come as far, by a call that changed nothing
+pub reached_unchanged : (old : State) (s t : Storage) (r q : Registers) (units : Units) (done : ℕ) → Reached old (running (works_of s r units)) done → t ≡ s → q ≡ r → Reached old (running (works_of t q units)) done
+reached_unchanged old s t r q units done reached same equal = rw (same, equal) reached

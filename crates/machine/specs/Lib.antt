@@ -3,6 +3,7 @@ pub mod Branches
 pub mod Word
 pub mod Instructions
 pub mod Shapes
+pub mod Kinds
 pub mod Operations
 pub mod Effect
 pub mod Run

@@ -14,7 +14,6 @@ use Rattle.machine.specs.declared.instruction.Instruction.{Instruction}
 use Rattle.machine.specs.declared.shapes.Addresses.{Addresses}
 use Rattle.machine.specs.declared.shapes.Addresses.TheVariants.{Absent, One, Two}
 use Rattle.machine.specs.declared.shapes.Shape.{Shape}
-use Rattle.machine.specs.declared.cache.Entry.{Entry}
 use Rattle.machine.specs.Instructions.{is_form, is_last, addresses_by}
 use Rattle.machine.specs.Word.{word_length}
 
@@ -80,7 +79,3 @@ pub record Stands (s : Storage) (i number mask : ℕ) : Type 0 where
 abbrev pub IsShapeOf : ℕ → ℕ → Shape → Type 0
 IsShapeOf characters marks shape =
     (s : Storage) (i : ℕ) → Stands s i characters marks → shape_at s i ≡ Ok shape
-
--- an entry has the shape of its own characters and word marks
-abbrev pub IsRight : Entry → Type 0
-IsRight entry = IsShapeOf entry.characters entry.marks entry.shape

@@ -1,16 +1,18 @@
 //! The instruction cycle.
 
-ghost use Rattle.std.specs.Prelude.{◌≡◌, ◌+◌, ◌%◌, ◌<◌, ◌≤◌, ℕ, true, length, Ok, Err, OnOk, OnErr, IfOk, IfErr};
+ghost use Rattle.std.specs.Prelude.{◌≡◌, ◌+◌, ◌%◌, ◌<◌, ◌≤◌, ℕ, length, Ok, Err, OnOk, OnErr, IfOk, IfErr, true};
 ghost use Rattle.core_store.specs.Storage.{largest_size};
 ghost use Rattle.machine.specs.Effect.{attempt, works_of, Ends, next_of};
 ghost use Rattle.units.specs.{Units.{areas_end, Makes}, declared.units.Units.{Units}};
 ghost use Rattle.machine.specs.{
-  Shapes.{has_two, operands_at, shape_at},
+  declared.operations.Course.TheVariants.{GoesOn},
+  Kinds.{Holds},
+  Shapes.{shape_at},
   Run.{after, attempts, is_running, running, step, IsWanting},
 };
 
 use crate::at_once::execute_at_once;
-use crate::cache::{Cache, LOOKED_AT};
+use crate::cache::{Cache, Entry, Key, LOOKED_AT};
 use crate::decode::{operands, read_shape};
 use crate::operations::{Course, execute};
 use crate::parts::Parts;
@@ -30,32 +32,8 @@ fn next_of(i: u16, count: u16) -> u16
     if next == LARGEST_SIZE { 0 } else { next }
 }
 
-/// Executes the instruction at register I, which has this shape and works at these positions.
-#[inline(never)]
-fn execute_shape<C: Core>(
-    core: &mut C,
-    registers: &mut Registers,
-    units: &mut Units,
-    shape: &Shape,
-    a: u16,
-    b: u16,
-) -> Result<Course, Fault>
-    requires size { areas_end ≤ length (C.cells core.old) }
-    requires inside { registers.old.i < length (C.cells core.old) }
-    requires ends { registers.old.i + shape.now.length ≤ largest_size }
-    requires shape { shape_at (C.cells core.old) registers.old.i ≡ Ok shape.now }
-    requires operands { operands_at (C.cells core.old) registers.old shape.now.addresses
-        ≡ Ok (a, b) }
-    requires two { has_two shape.now.addresses ≡ true → b < length (C.cells core.old) }
-    requires below { has_two shape.now.addresses ≡ true → b < largest_size }
-    ensures { Ends result (works_of (C.cells core.old) registers.old units.old)
-        (works_of (C.cells core.new) registers.new units.new) attempt }
-{
-    let next = next_of(registers.i, shape.length);
-    execute(core, registers, units, shape.working_at(a, b), next)
-}
-
 /// Executes the instruction at register I, which has this shape.
+#[inline(always)]
 fn carry_out<C: Core>(
     core: &mut C,
     registers: &mut Registers,
@@ -70,17 +48,8 @@ fn carry_out<C: Core>(
         (works_of (C.cells core.new) registers.new units.new) attempt }
 {
     let (a, b) = operands(core, registers, &shape.addresses)?;
-    execute_shape(core, registers, units, shape, a, b)
-}
-
-/// Keeps the shape of the instruction at a position.
-fn keep<C: Core>(cache: &mut Cache, core: &C, i: u16, shape: Shape)
-    requires size { areas_end ≤ length (C.cells core.now) }
-    requires shape { shape_at (C.cells core.now) i ≡ Ok shape }
-{
-    if i <= core.size() - LOOKED_AT {
-        cache.keep(i, core.eight_codes(i), core.nine_marks(i), shape);
-    }
+    let next = next_of(registers.i, shape.length);
+    execute(core, registers, units, shape.working_at(a, b), next)
 }
 
 /// Reads the shape of the instruction at register I.
@@ -103,24 +72,43 @@ fn read_here<C: Core>(core: &C, registers: &Registers) -> Result<Shape, Check>
     }
 }
 
-/// Reads the instruction at register I and executes it. Its shape is kept.
-#[inline(never)]
-fn attempt_anew<C: Core>(
+/// Executes the instruction at register I, which is `i`, if it is kept and can be done at once.
+/// Returns the position of the next one. `Err`: nothing is changed, and whether it is kept.
+#[inline(always)]
+fn attempt_at_once<C: Core>(
     core: &mut C,
     registers: &mut Registers,
-    units: &mut Units,
-    cache: &mut Cache,
-) -> Result<Course, Fault>
-    requires { areas_end ≤ length (C.cells core.old) }
-    ensures { Ends result (works_of (C.cells core.old) registers.old units.old)
-        (works_of (C.cells core.new) registers.new units.new) attempt }
+    units: &Units,
+    cache: &Cache,
+    i: u16,
+) -> Result<u16, bool>
+    requires size { areas_end ≤ length (C.cells core.old) }
+    requires cache { cache.now.size ≡ length (C.cells core.old) }
+    requires here { registers.old.i ≡ i }
+    ensures done { OnOk result (attempt (works_of (C.cells core.old) registers.old units.now)
+        ≡ Ok (works_of (C.cells core.new) registers.new units.now, GoesOn)) }
+    ensures next { IfOk result (λ next. registers.new.i ≡ next) }
+    ensures unchanged { OnErr result ((C.cells core.new ≡ C.cells core.old)
+        × (registers.new ≡ registers.old)) }
+    ensures kept { IfErr result (λ is_kept. is_kept ≡ true →
+        Holds cache.now.entries (C.cells core.old) i × (i < length (C.cells core.old))
+        × (i + 8 ≤ largest_size)) }
 {
-    let shape = read_here(core, registers)?;
-    keep(cache, core, registers.i, shape);
-    carry_out(core, registers, units, &shape)
+    if i > core.size() - LOOKED_AT {
+        return Err(false);
+    }
+    let Some(entry) = cache.entry(i, Key::at(core, i)) else {
+        return Err(false);
+    };
+    if execute_at_once(core, registers, units, entry, i + entry.shape.length) {
+        Ok(registers.i)
+    } else {
+        Err(true)
+    }
 }
 
-/// Reads the instruction at register I and executes it. No shape is kept.
+/// Reads the instruction at register I and executes it. It is not kept.
+#[inline(never)]
 fn attempt_alone<C: Core>(
     core: &mut C,
     registers: &mut Registers,
@@ -134,43 +122,83 @@ fn attempt_alone<C: Core>(
     carry_out(core, registers, units, &shape)
 }
 
-/// Executes the instruction at register I: at once if its shape is kept and it can be done so, else
-/// out of line. What is out of line has a result of its own, which keeps that of the usual case out
-/// of memory.
+/// Keeps the shape of the instruction at a position.
+fn keep<C: Core>(cache: &mut Cache, core: &C, i: u16, shape: &Shape)
+    requires size { areas_end ≤ length (C.cells core.now) }
+    requires cache { cache.old.size ≡ length (C.cells core.now) }
+    requires shape { shape_at (C.cells core.now) i ≡ Ok shape.now }
+    ensures { cache.new.size ≡ cache.old.size }
+{
+    if i <= core.size() - LOOKED_AT {
+        let entry = Entry::of_shape(Key::at(core, i), *shape, cache.size);
+        cache.keep(i, entry);
+    }
+}
+
+/// Reads the shape of the instruction at register I, and keeps it.
+fn read_anew<C: Core>(core: &C, registers: &Registers, cache: &mut Cache) -> Result<Shape, Check>
+    requires size { areas_end ≤ length (C.cells core.now) }
+    requires cache { cache.old.size ≡ length (C.cells core.now) }
+    ensures inside { IfOk result (λ _. registers.now.i < length (C.cells core.now)) }
+    ensures shape { IfOk result (λ shape.
+        shape_at (C.cells core.now) registers.now.i ≡ Ok shape) }
+    ensures below { IfOk result (λ shape. registers.now.i + shape.length ≤ largest_size) }
+    ensures check { IfErr result (λ check. (units : Units) →
+        attempt (works_of (C.cells core.now) registers.now units) ≡ Err check) }
+    ensures cache { cache.new.size ≡ cache.old.size }
+{
+    let shape = read_here(core, registers)?;
+    keep(cache, core, registers.i, &shape);
+    Ok(shape)
+}
+
+/// The shape of the instruction at register I: the one that is kept, or read anew.
 #[inline(always)]
+fn shape_here<C: Core>(
+    core: &C,
+    registers: &Registers,
+    cache: &mut Cache,
+    is_kept: bool,
+) -> Result<Shape, Check>
+    requires size { areas_end ≤ length (C.cells core.now) }
+    requires cache { cache.old.size ≡ length (C.cells core.now) }
+    requires kept { is_kept ≡ true → Holds cache.old.entries (C.cells core.now) registers.now.i }
+    requires inside { is_kept ≡ true → registers.now.i < length (C.cells core.now) }
+    requires below { is_kept ≡ true → registers.now.i + 8 ≤ largest_size }
+    ensures inside { IfOk result (λ _. registers.now.i < length (C.cells core.now)) }
+    ensures shape { IfOk result (λ shape.
+        shape_at (C.cells core.now) registers.now.i ≡ Ok shape) }
+    ensures below { IfOk result (λ shape. registers.now.i + shape.length ≤ largest_size) }
+    ensures check { IfErr result (λ check. (units : Units) →
+        attempt (works_of (C.cells core.now) registers.now units) ≡ Err check) }
+    ensures cache { cache.new.size ≡ cache.old.size }
+{
+    if is_kept {
+        return Ok(cache.slot(registers.i).shape);
+    }
+    read_anew(core, registers, cache)
+}
+
+/// Executes the instruction at register I, which may be kept, out of line.
+#[inline(never)]
 fn attempt<C: Core>(
     core: &mut C,
     registers: &mut Registers,
     units: &mut Units,
     cache: &mut Cache,
+    is_kept: bool,
 ) -> Result<Course, Fault>
-    requires { areas_end ≤ length (C.cells core.old) }
-    ensures { Ends result (works_of (C.cells core.old) registers.old units.old)
+    requires size { areas_end ≤ length (C.cells core.old) }
+    requires cache { cache.old.size ≡ length (C.cells core.old) }
+    requires kept { is_kept ≡ true → Holds cache.old.entries (C.cells core.old) registers.old.i }
+    requires inside { is_kept ≡ true → registers.old.i < length (C.cells core.old) }
+    requires below { is_kept ≡ true → registers.old.i + 8 ≤ largest_size }
+    ensures ended { Ends result (works_of (C.cells core.old) registers.old units.old)
         (works_of (C.cells core.new) registers.new units.new) attempt }
+    ensures cache { cache.new.size ≡ cache.old.size }
 {
-    let i = registers.i;
-    if i <= core.size() - LOOKED_AT {
-        let characters = core.eight_codes(i);
-        let marks = core.nine_marks(i);
-        if let Some(shape) = cache.shape(i, characters, marks) {
-            let (a, b) = match operands(core, registers, &shape.addresses) {
-                Ok(operands) => operands,
-                Err(check) => return Err(Fault::Stopped(check)),
-            };
-            let instruction = shape.working_at(a, b);
-            if execute_at_once(core, registers, units, instruction, i + shape.length) {
-                return Ok(Course::GoesOn);
-            }
-            return match execute_shape(core, registers, units, shape, a, b) {
-                Ok(course) => Ok(course),
-                Err(fault) => Err(fault),
-            };
-        }
-    }
-    match attempt_anew(core, registers, units, cache) {
-        Ok(course) => Ok(course),
-        Err(fault) => Err(fault),
-    }
+    let shape = shape_here(core, registers, cache, is_kept)?;
+    carry_out(core, registers, units, &shape)
 }
 
 /// The attempts of a run that came to its end.
@@ -212,10 +240,18 @@ fn execute_up_to<C: Core>(
         limit given_up.attempted) }
     ensures size { length (C.cells core.new) ≡ length (C.cells core.old) }
 {
-    let mut cache = Cache::new();
+    let mut cache = Cache::new(core.size());
+    let mut i = registers.i;
     for attempted in 0..limit {
-        match attempt(core, registers, units, &mut cache) {
-            Ok(Course::GoesOn) => {}
+        let is_kept = match attempt_at_once(core, registers, units, &cache, i) {
+            Ok(next) => {
+                i = next;
+                continue;
+            }
+            Err(is_kept) => is_kept,
+        };
+        match attempt(core, registers, units, &mut cache, is_kept) {
+            Ok(Course::GoesOn) => i = registers.i,
             Ok(Course::Halts) => {
                 return Ok(Attempts {
                     number: attempted + 1,

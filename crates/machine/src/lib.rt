@@ -23,6 +23,7 @@ mod decode;
 mod earlier;
 mod forms;
 mod instruction;
+mod kinds;
 mod meter;
 mod named;
 mod operations;

@@ -145,7 +145,7 @@ fn work_rarely<C: Core>(
 
 /// Sets the registers after a branch that is taken.
 #[inline(always)]
-fn take_branch(registers: &mut Registers, instruction: Instruction, next: u16)
+pub fn take_branch(registers: &mut Registers, instruction: Instruction, next: u16)
     ensures { registers.new ≡ branched (decoded_by instruction) next registers.old }
 {
     registers.i = instruction.a;
@@ -170,7 +170,7 @@ fn pass_position(registers: &mut Registers, instruction: Instruction, next: u16)
 
 /// Branches if the condition is met that the last character names.
 #[inline(always)]
-fn branch_on_condition(
+pub fn branch_on_condition(
     registers: &mut Registers,
     units: &Units,
     instruction: Instruction,
@@ -192,7 +192,7 @@ fn branch_on_condition(
 
 /// Branches if the character at the second address is the last one of the instruction.
 #[inline(always)]
-fn branch_on_character<C: Core>(
+pub fn branch_on_character<C: Core>(
     core: &C,
     registers: &mut Registers,
     instruction: Instruction,
@@ -241,7 +241,7 @@ pub fn branch<C: Core>(
 
 /// Branches if the position at the second address passes the test that the last character names.
 #[inline(never)]
-fn branch_on_test<C: Core>(
+pub fn branch_on_test<C: Core>(
     core: &C,
     registers: &mut Registers,
     units: &Units,

@@ -2,9 +2,9 @@
 
 ghost use Rattle.std.specs.Prelude.{◌≡◌, ◌+◌, ◌-◌, ◌<◌, ◌≤◌, ℕ, List, Bool, true, false, length, max, min, slice_index, Some, IfSome, Ok};
 ghost use Rattle.core_store.specs.{
-  Doing.{Does, DoesOrLeaves},
+  Doing.{Does, DoesAtOrLeaves, DoesOrLeaves},
   Storage.{codes_ending, field_length, put_codes, largest_size},
-  Operands.{are_inside, cut_length},
+  Operands.{cut_length, AreClear},
 };
 ghost use Rattle.moves.specs.{
   Blanked.{ends, leading, blanked},
@@ -20,7 +20,7 @@ use crate::filling::{data_count, fill};
 use crate::lanes;
 use crate::near::put_last;
 use core_store::{
-    Check, Core, Registers, are_inside, check_inside, cut_length, field_length, is_minus,
+    Check, Core, Registers, are_clear, check_inside, cut_length, field_length, is_minus,
 };
 
 /// The number of data characters at A and of control characters at B.
@@ -79,25 +79,19 @@ fn fill_blanked<C: Core>(core: &mut C, a: u16, a_count: u16, b: u16, b_count: u1
     blank_left(core, b, b_count, through);
 }
 
-/// The counts of an edit, found at once if sixteen characters end at A and at B, the control field
-/// has at most that many, and no data are in it. `None` says nothing about the fields.
+/// The counts of an edit, if the control field has at most sixteen characters and no data are in
+/// it. `None` says nothing about the fields.
 #[inline(always)]
-fn near_counts<C: Core>(core: &C, a: u16, b: u16) -> Option<Counts>
-    ensures inside { IfSome result (λ counts. are_inside (C.cells core.now) a b ≡ true) }
-    ensures within { IfSome result (λ counts. (a < length (C.cells core.now))
-        × (b < length (C.cells core.now)) × (a < largest_size) × (b < largest_size)) }
+fn clear_counts<C: Core>(core: &C, a: u16, b: u16) -> Option<Counts>
+    requires { AreClear (C.cells core.now) a b }
     ensures control { IfSome result (λ counts.
         field_length (C.cells core.now) b ≡ Some counts.b) }
     ensures cut { IfSome result (λ counts. cut_length (C.cells core.now) a
         (max 1 (places (codes_ending (C.cells core.now) b counts.b))) ≡ Some counts.a) }
-    ensures room { IfSome result (λ counts. (15 ≤ a) × (15 ≤ b)) }
     ensures some { IfSome result (λ counts. (1 ≤ counts.a) × (1 ≤ counts.b)) }
     ensures most { IfSome result (λ counts. (counts.a ≤ 16) × (counts.b ≤ 16)) }
     ensures apart { IfSome result (λ counts. is_sharing a counts.a b counts.b ≡ false) }
 {
-    if !are_inside(core, a, b) || a < 15 || b < 15 {
-        return None;
-    }
     let b_count = core.near_length(b);
     if b_count > 16 {
         return None;
@@ -140,22 +134,35 @@ fn fill_near<C: Core>(core: &mut C, a: u16, a_count: u16, b: u16, b_count: u16)
     );
 }
 
-/// Edits as `edit` does, all at once, where sixteen characters end at A and at B, the control field
-/// has at most that many, and no data are in it. Returns whether it did; if not, nothing is
-/// changed.
+/// Edits as `edit` does, all at once, fields that end at A and B, clear of position 000, where the
+/// control field has at most sixteen characters and no data are in it. Returns whether it did; if
+/// not, nothing is changed.
+#[inline(never)]
+pub fn edit_clear<C: Core>(core: &mut C, registers: &mut Registers, a: u16, b: u16) -> bool
+    requires { AreClear (C.cells core.old) a b }
+    ensures { DoesAtOrLeaves result (C.cells core.old) registers.old a b
+        (C.cells core.new) registers.new field_edited }
+{
+    let Some(counts) = clear_counts(core, a, b) else {
+        return false;
+    };
+    fill_near(core, a, counts.a, b, counts.b);
+    core.clear_mark(b + 1 - counts.b);
+    registers.pass(a, counts.a, b, counts.b);
+    true
+}
+
+/// Edits so if the fields at registers A and B are clear of position 000.
 #[inline(always)]
 fn edit_near<C: Core>(core: &mut C, registers: &mut Registers) -> bool
     ensures { DoesOrLeaves result (C.cells core.old) registers.old
         (C.cells core.new) registers.new field_edited }
 {
     let Registers { a, b, .. } = *registers;
-    let Some(counts) = near_counts(core, a, b) else {
+    if !are_clear(core, a, b) {
         return false;
-    };
-    fill_near(core, a, counts.a, b, counts.b);
-    core.clear_mark(b + 1 - counts.b);
-    registers.lower(counts.a, counts.b);
-    true
+    }
+    edit_clear(core, registers, a, b)
 }
 
 /// Edits the data at A by the control field at B. Check ADDRESS if A or B is outside the storage or

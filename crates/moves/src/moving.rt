@@ -2,9 +2,9 @@
 
 ghost use Rattle.std.specs.Prelude.{◌≡◌, ◌+◌, ◌-◌, ◌<◌, ◌≤◌, ◌&&◌, ℕ, true, false, Some, length, nat_le, IfSome, IsTrue, Ok};
 ghost use Rattle.core_store.specs.{
-  Doing.{Does, DoesOrLeaves},
+  Doing.{Does, DoesAt, DoesAtOrLeaves, DoesOrLeaves},
   Storage.{Storage, put_codes, largest_size},
-  Operands.{are_inside, is_overlapping},
+  Operands.{is_overlapping, AreClear},
   declared.registers.Registers.{Registers},
 };
 ghost use Rattle.moves.specs.{
@@ -13,7 +13,7 @@ ghost use Rattle.moves.specs.{
 };
 
 use crate::near::put_last;
-use core_store::{Check, Core, Registers, are_inside, check_inside, field_length, overlaps};
+use core_store::{Check, Core, Registers, are_clear, check_inside, field_length, lower, overlaps};
 
 /// The smaller of two counts; if only one is present, that one.
 #[inline(always)]
@@ -28,18 +28,31 @@ fn least_of(first: Option<u16>, second: Option<u16>) -> Option<u16>
 }
 
 /// The number of characters of a move, if there are at most sixteen and neither field is near
-/// position 000. A far mark of the other field is not searched for.
+/// position 000.
 #[inline(always)]
-#[tactic(auto, using(crate::proofs::MovingEnds::near_shared))]
 fn near_shared<C: Core>(core: &C, a: u16, b: u16) -> Option<u16>
     requires a_in { a < length (C.cells core.now) }
     requires b_in { b < length (C.cells core.now) }
     ensures length { IfSome result (λ count. move_length (C.cells core.now) a b ≡ Some count) }
-    ensures room { IfSome result (λ count. (15 ≤ a) × (15 ≤ b) × (count ≤ 16)) }
 {
     if a < 15 || b < 15 {
         return None;
     }
+    near_minimum(core, a, b)
+}
+
+/// The number of characters of a move, if there are at most sixteen. A far mark of the other field
+/// is not searched for.
+#[inline(always)]
+#[tactic(auto, using(crate::proofs::MovingEnds::near_shared))]
+fn near_minimum<C: Core>(core: &C, a: u16, b: u16) -> Option<u16>
+    requires a_in { a < length (C.cells core.now) }
+    requires b_in { b < length (C.cells core.now) }
+    requires a_room { 15 ≤ a }
+    requires b_room { 15 ≤ b }
+    ensures length { IfSome result (λ count. move_length (C.cells core.now) a b ≡ Some count) }
+    ensures most { IfSome result (λ count. count ≤ 16) }
+{
     let count = core.near_length(a).min(core.near_length(b));
     if count > 16 {
         return None;
@@ -92,27 +105,6 @@ fn copy_codes<C: Core>(core: &mut C, a: u16, b: u16, count: u16)
     }
 }
 
-/// The number of characters of a move, if there are at most sixteen, sixteen characters end at A
-/// and at B, and none is overwritten before it is copied. `None` says nothing about the fields.
-#[inline(always)]
-fn near_count<C: Core>(core: &C, a: u16, b: u16) -> Option<u16>
-    ensures inside { IfSome result (λ count. are_inside (C.cells core.now) a b ≡ true) }
-    ensures within { IfSome result (λ count. (a < length (C.cells core.now))
-        × (b < length (C.cells core.now)) × (a < largest_size) × (b < largest_size)) }
-    ensures length { IfSome result (λ count. move_length (C.cells core.now) a b ≡ Some count) }
-    ensures room { IfSome result (λ count. (15 ≤ a) × (15 ≤ b) × (count ≤ 16)) }
-    ensures apart { IfSome result (λ count. is_overlapping a b count ≡ false) }
-{
-    if !are_inside(core, a, b) {
-        return None;
-    }
-    let count = near_shared(core, a, b)?;
-    if overlaps(a, b, count) {
-        return None;
-    }
-    Some(count)
-}
-
 /// Copies at most sixteen characters at once.
 #[inline(always)]
 #[tactic(auto, using(crate::proofs::LaneLemmas::near_long))]
@@ -126,20 +118,37 @@ fn move_near<C: Core>(core: &mut C, a: u16, b: u16, count: u16)
     put_last(core, b, count, codes);
 }
 
-/// Moves as `move_field` does, at most sixteen characters, all at once, of fields that end at
-/// position 15 or later. Returns whether it did; if not, nothing is changed.
+/// Moves as `move_field` does, at most sixteen characters, all at once, between fields that end at
+/// A and B, clear of position 000, if none is overwritten before it is copied. Returns whether it
+/// did; if not, nothing is changed.
 #[inline(always)]
-pub fn move_at_once<C: Core>(core: &mut C, registers: &mut Registers) -> bool
+pub fn move_clear<C: Core>(core: &mut C, registers: &mut Registers, a: u16, b: u16) -> bool
+    requires { AreClear (C.cells core.old) a b }
+    ensures { DoesAtOrLeaves result (C.cells core.old) registers.old a b
+        (C.cells core.new) registers.new moved }
+{
+    let Some(count) = near_minimum(core, a, b) else {
+        return false;
+    };
+    if overlaps(a, b, count) {
+        return false;
+    }
+    move_near(core, a, b, count);
+    registers.pass(a, count, b, count);
+    true
+}
+
+/// Moves so if the fields at registers A and B are clear of position 000.
+#[inline(always)]
+fn move_at_once<C: Core>(core: &mut C, registers: &mut Registers) -> bool
     ensures { DoesOrLeaves result (C.cells core.old) registers.old
         (C.cells core.new) registers.new moved }
 {
     let Registers { a, b, .. } = *registers;
-    let Some(count) = near_count(core, a, b) else {
+    if !are_clear(core, a, b) {
         return false;
-    };
-    move_near(core, a, b, count);
-    registers.lower(count, count);
-    true
+    }
+    move_clear(core, registers, a, b)
 }
 
 /// Moves characters from the field at A to the field at B, up to the first mark in either. Marks
@@ -151,24 +160,30 @@ pub fn move_field<C: Core>(core: &mut C, registers: &mut Registers) -> Result<()
     if move_at_once(core, registers) {
         return Ok(());
     }
-    move_far(core, registers)
+    let Registers { a, b, .. } = *registers;
+    move_at(core, registers, a, b)
 }
 
-/// Moves as `move_field` does, fields of any length.
+/// Moves as `move_field` does, fields of any length that end at A and B.
 #[inline(never)]
 #[tactic(auto, unfolding(crate::specs::Moved::moved))]
-fn move_far<C: Core>(core: &mut C, registers: &mut Registers) -> Result<(), Check>
-    ensures { Does result (C.cells core.old) registers.old
+pub fn move_at<C: Core>(
+    core: &mut C,
+    registers: &mut Registers,
+    a: u16,
+    b: u16,
+) -> Result<(), Check>
+    ensures { DoesAt result (C.cells core.old) registers.old a b
         (C.cells core.new) registers.new moved }
 {
-    let Registers { a, b, .. } = *registers;
     check_inside(core, a, b)?;
     let count = move_length(core, a, b).ok_or(Check::Address)?;
     if !have_room(a, b, count) {
         return Err(Check::Address);
     }
     copy_codes(core, a, b, count);
-    registers.lower(count, count);
+    registers.a = lower(a, count);
+    registers.b = lower(b, count);
     Ok(())
 }
 

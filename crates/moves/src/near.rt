@@ -9,7 +9,7 @@ ghost use Rattle.core_store.specs.{
 };
 ghost use Rattle.moves.specs.{Stretches.{IsIn}, Suppressed.{unmarked}};
 
-use core_store::{Check, Core, are_inside, check_inside, field_length, last_of, overlaps};
+use core_store::{Check, Core, check_inside, field_length, last_of, overlaps};
 use std::simd::prelude::*;
 
 /// Writes the last `count` of sixteen characters to the positions that end at B. Marks stay.
@@ -57,22 +57,18 @@ pub fn clear_near_marks<C: Core>(core: &mut C, b: u16, count: u16)
     }
 }
 
-/// The number of characters of the field at A, if it has at most sixteen, sixteen characters end at
-/// A and at B, and none of the field is overwritten before it is read when it is copied to B.
-/// `None` says nothing about the field.
+/// The number of characters of the field at A, if it has at most sixteen and none of them is
+/// overwritten before it is read when the field is copied to B. `None` says nothing about the
+/// field.
 #[inline(always)]
 #[tactic(auto, using(crate::proofs::NearLemmas::near_field))]
-pub fn near_field<C: Core>(core: &C, a: u16, b: u16) -> Option<u16>
-    ensures inside { IfSome result (λ count. are_inside (C.cells core.now) a b ≡ true) }
-    ensures within { IfSome result (λ count. (a < length (C.cells core.now))
-        × (b < length (C.cells core.now)) × (a < largest_size) × (b < largest_size)) }
+pub fn clear_field<C: Core>(core: &C, a: u16, b: u16) -> Option<u16>
+    requires within { a < length (C.cells core.now) }
+    requires room { 15 ≤ a }
     ensures field { IfSome result (λ count. field_length (C.cells core.now) a ≡ Some count) }
-    ensures room { IfSome result (λ count. (15 ≤ a) × (15 ≤ b) × (count ≤ 16)) }
+    ensures most { IfSome result (λ count. count ≤ 16) }
     ensures apart { IfSome result (λ count. is_overlapping a b count ≡ false) }
 {
-    if !are_inside(core, a, b) || a < 15 || b < 15 {
-        return None;
-    }
     let count = core.near_length(a);
     if count > 16 || overlaps(a, b, count) {
         return None;

@@ -2,9 +2,9 @@
 
 ghost use Rattle.std.specs.Prelude.{◌≡◌, ◌+◌, ◌-◌, ◌<◌, ◌≤◌, ◌==◌, ℕ, false, length, if◌then◌else◌};
 ghost use Rattle.core_store.specs.{
-  Doing.{Does},
+  Doing.{Does, DoesAtOrLeaves, DoesOrLeaves},
   Storage.{code_at, codes_ending, put_codes, largest_size},
-  Operands.{is_overlapping},
+  Operands.{is_overlapping, AreClear},
 };
 ghost use Rattle.moves.specs.{
   Characters.{bare, bare_units},
@@ -15,9 +15,9 @@ ghost use Rattle.moves.specs.{
 use crate::blanking::{Stop, blank_start};
 use crate::characters::bare;
 use crate::lanes;
-use crate::near::{clear_marks, clear_near_marks, far_field, near_field, put_last};
+use crate::near::{clear_field, clear_marks, clear_near_marks, far_field, put_last};
 use bcd::Code;
-use core_store::{Check, Core, Registers};
+use core_store::{Check, Core, Registers, are_clear};
 
 /// The character at an index from the right, without its zone if it is the units.
 #[inline(always)]
@@ -80,6 +80,36 @@ fn move_near<C: Core>(core: &mut C, a: u16, b: u16, count: u16)
     );
 }
 
+/// Suppresses as `suppress` does, all at once, a field that ends at A, to B, both clear of position
+/// 000, if it has at most sixteen characters and none is overwritten before it is read. Returns
+/// whether it did; if not, nothing is changed.
+#[inline(never)]
+pub fn suppress_clear<C: Core>(core: &mut C, registers: &mut Registers, a: u16, b: u16) -> bool
+    requires { AreClear (C.cells core.old) a b }
+    ensures { DoesAtOrLeaves result (C.cells core.old) registers.old a b
+        (C.cells core.new) registers.new zeros_suppressed }
+{
+    let Some(count) = clear_field(core, a, b) else {
+        return false;
+    };
+    move_near(core, a, b, count);
+    registers.pass(a, count, b, count);
+    true
+}
+
+/// Suppresses so if the fields at registers A and B are clear of position 000.
+#[inline(always)]
+fn suppress_near<C: Core>(core: &mut C, registers: &mut Registers) -> bool
+    ensures { DoesOrLeaves result (C.cells core.old) registers.old
+        (C.cells core.new) registers.new zeros_suppressed }
+{
+    let Registers { a, b, .. } = *registers;
+    if !are_clear(core, a, b) {
+        return false;
+    }
+    suppress_clear(core, registers, a, b)
+}
+
 /// Moves the field at A to B without its leading zeros and without marks. Check ADDRESS if A or B
 /// is outside the storage or the field would pass position 000, check OVERLAP if the field would be
 /// overwritten before it is read.
@@ -88,13 +118,10 @@ pub fn suppress<C: Core>(core: &mut C, registers: &mut Registers) -> Result<(), 
     ensures { Does result (C.cells core.old) registers.old
         (C.cells core.new) registers.new zeros_suppressed }
 {
-    let Registers { a, b, .. } = *registers;
-    let Some(count) = near_field(core, a, b) else {
-        return suppress_far(core, registers);
-    };
-    move_near(core, a, b, count);
-    registers.lower(count, count);
-    Ok(())
+    if suppress_near(core, registers) {
+        return Ok(());
+    }
+    suppress_far(core, registers)
 }
 
 /// Suppresses as `suppress` does, a field of any length.
