@@ -1,5 +1,6 @@
 pub mod Statuses
 pub mod Runs
+pub mod Pieces
 pub mod Endings
 pub mod Assembling
 pub mod Put

@@ -89,18 +89,6 @@ pub record IsPrinted (ending : Result Shown Fault) (ended : Status)
   pub output : Outputs ending output_old output_new
   pub errors : Appends errors_old errors_new (message_of ending)
 
--- why a listing was not written whole: want of memory, and then nothing was written, or a device
-abbrev pub IsListingFault : Fault → Option (List ℕ) → Option (List ℕ) → Type 0
-IsListingFault f old new = ((f ≡ fault.Memory) × Keeps old new) ⊎ (f ≡ fault.Device)
-
--- what the run gave was printed, or the fault of memory or of a device
-abbrev pub IsShown : Shown → Status → Option (List ℕ) → Option (List ℕ) → Option (List ℕ) →
-    Option (List ℕ) → Type 0
-IsShown shown ended output_old output_new errors_old errors_new =
-    IsPrinted (Ok shown) ended output_old output_new errors_old errors_new
-    ⊎ IsPrinted (Err fault.Memory) ended output_old output_new errors_old errors_new
-    ⊎ IsPrinted (Err fault.Device) ended output_old output_new errors_old errors_new
-
 -- the run of the text ended in some way, and what it gave was printed
 abbrev pub Tells : List ℕ → Size → Switches → Status → Option (List ℕ) → Option (List ℕ) →
     Option (List ℕ) → Option (List ℕ) → Type 0

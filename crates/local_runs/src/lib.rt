@@ -18,6 +18,7 @@
 mod assembling;
 mod deck_files;
 mod out_files;
+mod pieces;
 mod replacing;
 mod running;
 mod showing;

@@ -1,29 +1,36 @@
 //! Running a deck from a reader.
 
 ghost use Rattle.std.specs.{
-  Prelude.{◌≡◌, ◌≢◌, ◌<◌, ◌⊎◌, List, ℕ, take, IfOk, IfErr, OnOk},
+  Prelude.{◌≡◌, ◌≢◌, ◌<◌, ◌⊎◌, ◌++◌, ◌∷◌, [], List, ℕ, take, IfOk, IfErr},
   Io.KnownBytes.{Appends},
 };
-ghost use Rattle.machine.specs.Run.{lines_of};
+ghost use Rattle.core_store.specs.declared.sizes.Size.{Size};
+ghost use Rattle.machine.specs.Reports.{report_of, report_words};
 ghost use Rattle.cards.specs.{
   Decks.{IsDeck},
   Faults.{out_of_memory},
-  Files.{text_of},
+  Files.{line_feed, text_of},
   declared.Card.{Card},
 };
-ghost use Rattle.units.specs.Listing.{rendered};
-ghost use Rattle.local_runs.specs.Runs.{IsListingFault, IsRunOf, IsShown, Reads, Refuses, Tells, shown_by, most_bytes};
+ghost use Rattle.units.specs.declared.switches.Switches.{Switches};
+ghost use Rattle.command_line.specs.Printed.{fault_words};
+ghost use Rattle.local_runs.specs.{
+  Pieces.{HasLoaded},
+  Runs.{Reads, Refuses, Tells, most_bytes},
+  Statuses.{status_at},
+};
 
+use crate::pieces::{Broken, run_whole};
 use crate::statuses::status_at;
 use cards::{Deck, OUT_OF_MEMORY, read_text};
 use command_line::{Fault, Status, tell_fault};
 use core_store::{PlaneCore, Size};
-use machine::{Machine, Report, machine_after};
+use machine::{Machine, Report};
 use std::alloc::Global;
 use std::io;
-use std::io::{Read, Write};
+use std::io::{ErrorKind, Read, Write};
 use texts::read_up_to;
-use units::{ListingFault, Switches, write_listing};
+use units::{ListingWriter, Profile, Switches};
 
 /// How many bytes are read at most: 2,000 cards and one byte, so that a longer deck is noticed.
 pub const MOST_BYTES: u64 = 162_001;
@@ -41,14 +48,14 @@ pub fn text_in<R: Read + Drop>(alloc: Global, reader: R) -> Result<Vec<u8>, Faul
     }
 }
 
-/// The machine that has run a text's deck.
+/// The machine that has loaded a text's deck, with room for all that it can make.
 fn machine_for(
     alloc: Global,
     text: &[u8],
     size: Size,
     switches: Switches,
 ) -> Result<Machine<PlaneCore>, Fault>
-    ensures ran { IfOk result (λ machine. IsRunOf text.now size switches (shown_by machine)) }
+    ensures loaded { IfOk result (λ machine. HasLoaded text.now size switches machine) }
     ensures fault { IfErr result (λ fault. Refuses text.now fault × (fault ≢ Fault.Device)) }
 {
     let deck = match read_text(alloc, text) {
@@ -58,55 +65,72 @@ fn machine_for(
     if deck.cards().is_empty() {
         return Err(Fault::Empty);
     }
-    match machine_after(alloc, deck, size, switches) {
-        Ok(machine) => Ok(machine),
+    let mut machine = match Machine::load(alloc, deck, size, switches, Profile::Selecting) {
+        Ok(machine) => machine,
+        Err(_) => return Err(Fault::Memory),
+    };
+    match machine.make_room() {
+        Ok(()) => Ok(machine),
         Err(_) => Err(Fault::Memory),
     }
 }
 
-/// Writes the listing of the lines that a machine has printed.
-fn put_listing<W: Write>(
-    alloc: Global,
-    machine: &Machine<PlaneCore>,
-    output: &mut W,
-) -> Result<(), Fault>
-    ensures whole { OnOk result (Appends (W.contents output.old) (W.contents output.new)
-        (rendered (lines_of machine.now))) }
-    ensures fault { IfErr result (λ fault. IsListingFault fault
-        (W.contents output.old) (W.contents output.new)) }
+/// Prints the report of a machine.
+fn report<E: Write>(machine: &Machine<PlaneCore>, errors: &mut E) -> io::Result<Status>
+    ensures { IfOk result (λ status. (status ≡ status_at (report_of machine.now).standing)
+        × Appends (E.contents errors.old) (E.contents errors.new)
+        (report_words (report_of machine.now) ++ line_feed ∷ [])) }
 {
-    match write_listing(alloc, output, &machine.parts().units.printer.lines) {
-        Ok(()) => Ok(()),
-        Err(ListingFault::Memory) => Err(Fault::Memory),
-        Err(ListingFault::Output) => Err(Fault::Device),
-    }
-}
-
-/// Writes the listing of a machine that has run, and then prints its report.
-fn show<W: Write, E: Write>(
-    alloc: Global,
-    machine: &Machine<PlaneCore>,
-    output: &mut W,
-    errors: &mut E,
-) -> io::Result<Status>
-    ensures { IfOk result (λ status. IsShown (shown_by machine.now) status
-        (W.contents output.old) (W.contents output.new)
-        (E.contents errors.old) (E.contents errors.new)) }
-{
-    match put_listing(alloc, machine, output) {
-        Ok(()) => {}
-        Err(fault) => return tell_fault(errors, fault),
-    }
     let report = Report::of(machine.parts());
     writeln!(errors, "{report}")?;
     Ok(status_at(report.standing))
 }
 
+/// Tells that a run was broken off. Of memory this is no end: it was taken before anything was
+/// written, and the error says that it was wanting all the same.
+fn tell_broken<E: Write>(broken: Broken, errors: &mut E) -> io::Result<Status>
+    ensures { IfOk result (λ status. (broken ≡ Broken.Output) × (status ≡ Status.NotDone)
+        × Appends (E.contents errors.old) (E.contents errors.new)
+        (fault_words Fault.Device ++ line_feed ∷ [])) }
+{
+    match broken {
+        Broken::Output => tell_fault(errors, Fault::Device),
+        Broken::Memory => {
+            tell_fault(errors, Fault::Memory)?;
+            Err(io::Error::from(ErrorKind::OutOfMemory))
+        }
+    }
+}
+
+/// Runs a machine that has loaded a text's deck, writes its listing, and then prints its report.
+fn run_loaded<W: Write, E: Write>(
+    alloc: Global,
+    machine: Machine<PlaneCore>,
+    output: &mut W,
+    errors: &mut E,
+) -> io::Result<Status>
+    ensures { IfOk result (λ status. (text : List ℕ) (size : Size) (switches : Switches) →
+        HasLoaded text size switches machine → Tells text size switches status
+        (W.contents output.old) (W.contents output.new)
+        (E.contents errors.old) (E.contents errors.new)) }
+{
+    let mut machine = machine;
+    let listing = match ListingWriter::new(alloc) {
+        Ok(listing) => listing,
+        Err(_) => return tell_fault(errors, Fault::Memory),
+    };
+    match run_whole(&mut machine, listing, output) {
+        Ok(()) => report(&machine, errors),
+        Err(broken) => tell_broken(broken, errors),
+    }
+}
+
 /// Runs the deck whose text a reader has, and returns how the program ends.
 ///
-/// The listing is written whole, piece by piece, before anything is printed. If a fault is printed,
-/// no listing is written, except for what a failing output took. Fails only if `errors` itself
-/// fails.
+/// The listing is written whole, piece by piece while the machine runs, before anything is printed.
+/// If a fault is printed, no listing is written, except for what a failing output took. Fails only
+/// if `errors` itself fails; or if memory is wanting once the listing is begun, which cannot be,
+/// since all of it was taken before.
 pub fn run_deck<R: Read + Drop, W: Write, E: Write>(
     alloc: Global,
     reader: R,
@@ -125,7 +149,7 @@ pub fn run_deck<R: Read + Drop, W: Write, E: Write>(
         Err(fault) => return tell_fault(errors, fault),
     };
     match machine_for(alloc, &text, size, switches) {
-        Ok(machine) => show(alloc, &machine, output, errors),
+        Ok(machine) => run_loaded(alloc, machine, output, errors),
         Err(fault) => tell_fault(errors, fault),
     }
 }

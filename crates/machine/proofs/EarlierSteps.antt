@@ -36,6 +36,7 @@ use Rattle.machine.specs.Branches.{is_met}
 use Rattle.machine.specs.Word.{word, decoded}
 use Rattle.machine.specs.Effect.{Works, attempt, effect, filled, next_of, ordered_by, pocket_by, worked, is_taken, after_branch}
 use Rattle.machine.specs.Ranges.{IsInRange}
+use Rattle.machine.specs.Reports.{report_of}
 use Rattle.machine.specs.Run.{State, step, after, attempts, executed, attempted, is_running, is_checked, lines_of}
 use Rattle.machine.proofs.Steps.{step_keeps, stems_after, stems_same, step_running, step_stopped}
 use Rattle.machine.specs.Earlier.{punch_with, printer_with, units_with, works_with, with_earlier, without_outputs, AreBehind, IsBehind}
@@ -277,3 +278,24 @@ without_in_range m h = record {
     switches = h.units.switches;
   };
 }
+
+-- ---- a machine whose cards and lines are set aside
+
+pub aside_same : (cards : List Punched) (lines : List Line) (m : State) →
+    with_earlier (cards ++ m.works.units.punch.cards) (lines ++ lines_of m) (without_outputs m) ≡ with_earlier cards lines m
+aside_same cards lines m = rw (append-nil (cards ++ m.works.units.punch.cards), append-nil (lines ++ lines_of m)) refl
+
+pub aside_behind : (cards : List Punched) (lines : List Line) (m : State) → IsBehind cards lines m →
+    IsBehind (cards ++ m.works.units.punch.cards) (lines ++ lines_of m) (without_outputs m)
+aside_behind cards lines m behind =
+    let own = m.works.units in
+    let more_cards : own.before.cards + length own.punch.cards ≡ length (cards ++ own.punch.cards) = omega (arith, ap (λ (n : Counts). n.cards) behind, length-append cards own.punch.cards) in
+    let more_lines : own.before.lines + length (lines_of m) ≡ length (lines ++ lines_of m) = omega (arith, ap (λ (n : Counts). n.lines) behind, length-append lines (lines_of m)) in
+    rw (more_cards, more_lines) refl
+
+pub report_same : (cards : List Punched) (lines : List Line) (m : State) → IsBehind cards lines m → report_of (with_earlier cards lines m) ≡ report_of m
+report_same cards lines m behind =
+    let own = m.works.units in
+    let all_cards : 0 + length (cards ++ own.punch.cards) ≡ own.before.cards + length own.punch.cards = omega (arith, ap (λ (n : Counts). n.cards) behind, length-append cards own.punch.cards) in
+    let all_lines : 0 + length (lines ++ lines_of m) ≡ own.before.lines + length (lines_of m) = omega (arith, ap (λ (n : Counts). n.lines) behind, length-append lines (lines_of m)) in
+    rw (all_cards, all_lines) refl

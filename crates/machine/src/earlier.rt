@@ -1,6 +1,6 @@
 //! Laws of machines whose earlier cards and lines are kept elsewhere.
 
-ghost use Rattle.std.specs.Prelude.{◌≡◌, ℕ, List};
+ghost use Rattle.std.specs.Prelude.{◌≡◌, ◌++◌, ℕ, List};
 ghost use Rattle.units.specs.{
   Units.{nothing_made, Makes},
   declared.printer.Line.{Line},
@@ -10,6 +10,7 @@ ghost use Rattle.units.specs.{
 ghost use Rattle.machine.specs.{
   Earlier.{with_earlier, without_outputs, IsBehind},
   Ranges.{IsInRange},
+  Reports.{report_of},
   Run.{State, after, attempts, executed, lines_of, started},
   Standings.{standing_of},
 };
@@ -47,4 +48,18 @@ pub fn outputs_are_put_back()
     ensures behind { (m : State) → m.works.units.before ≡ nothing_made →
         IsBehind m.works.units.punch.cards (lines_of m) (without_outputs m) }
     ensures in_range { (m : State) → IsInRange m → IsInRange (without_outputs m) }
+{}
+
+/// The law of setting aside: a machine without its own cards and lines, with these behind the
+/// earlier ones, is the machine that it was with the earlier ones alone; these were made before its
+/// own. Earlier cards and lines count in its report wherever they are.
+pub fn outputs_are_set_aside()
+    ensures same { (cards : List Punched) (lines : List Line) (m : State) →
+        with_earlier (cards ++ m.works.units.punch.cards) (lines ++ lines_of m) (without_outputs m)
+        ≡ with_earlier cards lines m }
+    ensures behind { (cards : List Punched) (lines : List Line) (m : State) →
+        IsBehind cards lines m →
+        IsBehind (cards ++ m.works.units.punch.cards) (lines ++ lines_of m) (without_outputs m) }
+    ensures report { (cards : List Punched) (lines : List Line) (m : State) →
+        IsBehind cards lines m → report_of (with_earlier cards lines m) ≡ report_of m }
 {}

@@ -36,7 +36,7 @@ mod standings;
 mod whole_runs;
 
 pub use decode::{Word, character, instructions_end_at_marks, word_length};
-pub use earlier::{earlier_outputs_stay_in_front, outputs_are_put_back};
+pub use earlier::{earlier_outputs_stay_in_front, outputs_are_put_back, outputs_are_set_aside};
 pub use forms::{addresses_in, allows, has_form};
 pub use instruction::Instruction;
 pub use meter::Meter;

@@ -8,8 +8,9 @@ ghost use Rattle.units.specs.{
   declared.switches.Switches.{Switches},
 };
 ghost use Rattle.core_store.specs.Storage.{blank_storage, put_codes, with_mark, positions_of};
-ghost use Rattle.units.specs.{Listing.{IsRising}, Stacked.{IsPlain}, Units.{Makes}};
+ghost use Rattle.units.specs.{Listing.{IsRising}, Ranges.{AreUnits}, Stacked.{IsPlain}, Units.{Makes}};
 ghost use Rattle.machine.specs.{
+  Earlier.{without_outputs},
   Run.{first_card, first_units, State, step, after, attempts, executed, lines_of, risen, is_running, is_checked, is_halted, event_of, loaded, started, restored, IsGivenUp},
   Effect.{works_of},
   Ranges.{IsInRange},
@@ -162,6 +163,22 @@ impl<C: Core> Machine<C> {
         &self.parts
     }
 
+    /// Takes memory for all cards and lines that the machine can make, so that its runs take none.
+    /// Fails only if there is none.
+    pub fn make_room(&mut self) -> Result<(), AllocError>
+        ensures { self.new ≡ self.old }
+    {
+        self.parts.units.make_room()
+    }
+
+    /// Removes the cards and lines that were made; they only count from now on. Their memory stays
+    /// for further ones.
+    pub fn set_aside(&mut self)
+        ensures { self.new ≡ without_outputs self.old }
+    {
+        self.parts.set_aside();
+    }
+
     /// Starts a machine that is at a halt, with the switches set anew.
     pub fn start(&mut self, switches: Switches)
         requires { is_halted self.old.standing ≡ true }
@@ -223,6 +240,23 @@ impl<C: Core> Parts<C> {
     {
         self.units.switches = switches.seven();
         self.standing = Standing::Running;
+    }
+
+    /// Removes the cards and lines that were made; they only count from now on.
+    fn set_aside(&mut self)
+        requires { AreUnits self.old.works.units }
+        ensures { self.new ≡ without_outputs self.old }
+    {
+        let Units {
+            before,
+            punch,
+            printer,
+            ..
+        } = &mut self.units;
+        before.cards += punch.cards.len() as u32;
+        before.lines += printer.lines.len() as u32;
+        punch.cards.clear();
+        printer.lines.clear();
     }
 
     /// Copies the storage to `spare`, and returns the rest of the state.

@@ -5,7 +5,7 @@ use std::alloc::{AllocError, Global};
 use std::io;
 use std::io::{ErrorKind, Write};
 use std::test::Fail;
-use units::{LINE_LENGTH, Line, ListingFault, render, write_listing};
+use units::{LINE_LENGTH, Line, ListingWriter, render};
 
 /// A writer that takes a number of bytes, and then fails.
 #[derive(Drop)]
@@ -44,14 +44,28 @@ fn full_lines(alloc: Global, count: u32) -> Result<Vec<Line>, AllocError> {
     Ok(lines)
 }
 
+/// Writes the listing of lines in two parts.
+fn write_in_two<W: Write>(
+    alloc: Global,
+    output: &mut W,
+    lines: &[Line],
+    first: usize,
+) -> io::Result<()> {
+    let (before, behind) = lines.split_at(first.min(lines.len()));
+    let mut writer = ListingWriter::new(alloc)?;
+    writer.add(output, before)?;
+    writer.add(output, behind)?;
+    writer.finish(output)
+}
+
 #[test]
 fn pieces_are_the_listing(rt: HostRuntime) -> Result<(), Fail> {
     let alloc = rt.alloc();
     for count in [0, 1, 2, 489, 490, 491, 492, 493, 979, 980, 981, 2000] {
         let lines = full_lines(alloc, count)?;
         let mut written = Vec::new(alloc);
-        let result = write_listing(alloc, &mut written, &lines);
-        assert!(rt; result.is_ok());
+        let first = count as usize / 3;
+        write_in_two(alloc, &mut written, &lines, first)?;
         assert!(rt;
             written.as_slice() == render(alloc, &lines)?.as_slice(),
             "at {count}"
@@ -72,8 +86,8 @@ fn a_failing_writer_has_a_beginning(rt: HostRuntime) -> Result<(), Fail> {
             taken: Vec::new(alloc),
             room,
         };
-        let result = write_listing(alloc, &mut output, &lines);
-        assert!(rt; result == Err(ListingFault::Output), "at {room}");
+        let result = write_in_two(alloc, &mut output, &lines, 500);
+        assert!(rt; result.is_err(), "at {room}");
         assert!(rt; output.taken.len() == room, "at {room}");
         assert!(rt;
             listing.as_slice().starts_with(output.taken.as_slice()),

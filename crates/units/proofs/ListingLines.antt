@@ -2,14 +2,15 @@
 use Rattle.std.proofs.Common.{set, length-set, get_or-set_other, List, [], ◌∷◌, ◌++◌, ◌≡◌, ◌≢◌, ◌⊎◌, inl, inr, ℕ, zero, suc, ◌+◌, ◌-◌, ◌<◌, ◌≤◌, max, map, take, length, get_or, replicate, Bool, true, false, cond, eqb, ◌&&◌, Option, Some, None, refl, sym, ◌∙◌, ap, ap₂, subst, arith}
 use Rattle.std.specs.List.{AllAdjacentBelow, fold, filter, find, flat_map, join_with_byte, dedup_from, range_with_len}
 use Rattle.std.specs.Option.{option_or}
-use Rattle.std.proofs.lemmas.List.{length-replicate, get_or-replicate, take_more_set, map_more, length-map, get_or-map, take-map, take_more, append-nil, append_assoc, map-append}
+use Rattle.std.proofs.Math.Seq.{take-append-add}
+use Rattle.std.proofs.lemmas.List.{length-append, get_or-append-add, length-replicate, get_or-replicate, take_more_set, map_more, length-map, get_or-map, take-map, take_more, append-nil, append_assoc, map-append}
 use Rattle.std.proofs.lemmas.List.Concat.{flat_map-append}
 use Rattle.std.proofs.lemmas.List.Elements.{filter-append}
 use Rattle.std.proofs.lemmas.List.Folds.{find-append}
 use Rattle.std.proofs.lemmas.List.Sums.{suffix_len_is, fold_push}
 use Rattle.std.proofs.lemmas.Bool.{eq-eqb, ne_eqb, cases_eq}
 use Rattle.units.specs.declared.printer.Line.{Line}
-use Rattle.units.specs.Listing.{shown, blank, text_of, form_feed, printed_at, listed_line, last_line, page, rendered, added_after, IsAbove, IsRising}
+use Rattle.units.specs.Listing.{shown, blank, text_of, form_feed, printed_at, listed_line, last_line, page, rendered, added_after, last_form, IsAbove, IsListedTo, IsRising}
 use Rattle.cards.specs.Files.{line_feed}
 
 -- what a print area shows, by where its trailing blanks begin
@@ -293,10 +294,6 @@ last_line_above : (xs : List Line) (form number : ℕ) → Rises xs form number 
 unfolding last_line
 last_line_above xs form number h some = last_above xs form number 0 h some
 
--- the form of the last line, or 0
-abbrev last_form : List Line → ℕ
-last_form xs = final 0 (map (λ l. l.form) xs)
-
 -- above a new form lines stand above its line 1 too
 new_form : (xs : List Line) (form number : ℕ) → Rises xs form number → last_form xs ≢ form → Rises xs form 1
 new_form [] form number h ne = tt
@@ -340,14 +337,7 @@ rendered_more (x ∷ xs) y last h some is =
     (page_other (x ∷ xs) y) (page_more (x ∷ xs) y last is (omega arith)) x.form (map (λ l. l.form) xs) (climbs x xs y.form y.line h)
     (λ ne. page_none (x ∷ xs) y.form (none_on_new_form (x ∷ xs) y.form y.line h ne))
 
--- the lines so far, in the middle of a listing
-pub record IsShown (xs : List Line) (bytes : List ℕ) (on last : ℕ) : Type 0 where
-  pub text : bytes ≡ rendered xs
-  pub form : on ≡ last_form xs
-  pub done : last ≡ last_line xs on
-  pub none : on ≡ 0 → xs ≡ []
-
-pub shown_none : IsShown [] [] 0 0
+pub shown_none : IsListedTo [] [] 0 0
 unfolding rendered last_line
 shown_none = record { text = refl; form = refl; done = refl; none = λ _. refl }
 
@@ -359,7 +349,7 @@ between_new : (xs : List Line) (form : ℕ) → 0 < last_form xs → last_form x
 between_new [] form some ne = absurd (omega arith)
 between_new (x ∷ xs) form some ne = rw (ne_eqb form (last_form (x ∷ xs)) (λ e. ne (sym e))) refl
 
-module _ (xs : List Line) (y : Line) (bytes : List ℕ) (on last : ℕ) (so_far : IsShown xs bytes on last) where
+module _ (xs : List Line) (y : Line) (bytes : List ℕ) (on last : ℕ) (so_far : IsListedTo xs bytes on last) where
   -- the form feed before another form
   feed : last_form xs ≢ y.form → cond (eqb on 0) [] (form_feed ∷ []) ≡ between xs y.form
   feed new = elim (cases_eq on 0) [
@@ -386,13 +376,13 @@ module _ (lines : List Line) (i : ℕ) (y : Line) (rising : IsRising lines) (ins
   rises_to = subst (λ (z : Line). Rises (take i lines) z.form z.line) (sym at) (rises lines i y inside rising.in_order)
 
   -- the listing of one line more
-  pub shown_more : (bytes : List ℕ) (on last : ℕ) → IsShown (take i lines) bytes on last → IsShown (take (i + 1) lines) (bytes ++ added_after on last y) y.form y.line
+  pub shown_more : (bytes : List ℕ) (on last : ℕ) → IsListedTo (take i lines) bytes on last → IsListedTo (take (i + 1) lines) (bytes ++ added_after on last y) y.form y.line
   shown_more bytes on last so_far =
       let xs = take i lines in
       let stands : (0 < y.form) × (0 < y.line) = subst (λ (z : Line). (0 < z.form) × (0 < z.line)) (sym at) (rising.on_forms i y inside) in
       let lower = last_line_above xs y.form y.line rises_to stands.1 in
       let longer : take (i + 1) lines ≡ xs ++ y ∷ [] = take_more lines i y inside ∙ ap (λ z. xs ++ z ∷ []) (sym at) in
-      subst (λ ys. IsShown ys (bytes ++ added_after on last y) y.form y.line) (sym longer) (record {
+      subst (λ ys. IsListedTo ys (bytes ++ added_after on last y) y.form y.line) (sym longer) (record {
         text =
             ap (λ bs. bs ++ added_after on last y) so_far.text
             ∙ ap (λ more. rendered xs ++ more) (adds xs y bytes on last so_far rises_to)
@@ -401,3 +391,16 @@ module _ (lines : List Line) (i : ℕ) (y : Line) (rising : IsRising lines) (ins
         done = omega (arith, last_line_own xs y);
         none = λ zeroth. absurd (omega (arith, stands.0));
       })
+
+-- the same where these lines stand behind earlier ones
+pub shown_behind : (before lines : List Line) (i : ℕ) (y : Line) → IsRising (before ++ lines) → i < length lines → y ≡ get_or lines i y →
+    (bytes : List ℕ) (on last : ℕ) → IsListedTo (before ++ take i lines) bytes on last →
+    IsListedTo (before ++ take (i + 1) lines) (bytes ++ added_after on last y) y.form y.line
+shown_behind before lines i y rising inside at bytes on last so_far =
+    let whole = before ++ lines in
+    let here = length before + i in
+    let within : here < length whole = omega (arith, length-append before lines) in
+    let at_whole : y ≡ get_or whole here y = at ∙ sym (get_or-append-add before lines i y) in
+    let next : here + 1 ≡ length before + (i + 1) = omega arith in
+    let found = shown_more whole here y rising within at_whole bytes on last (subst (λ xs. IsListedTo xs bytes on last) (sym (take-append-add before lines i)) so_far) in
+    subst (λ xs. IsListedTo xs (bytes ++ added_after on last y) y.form y.line) (ap (λ n. take n whole) next ∙ take-append-add before lines (i + 1)) found

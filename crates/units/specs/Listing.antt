@@ -1,9 +1,11 @@
 -- the listing of printed lines
+use Rattle.std.specs.Io.KnownBytes.{Appends, append_known}
 use Rattle.std.specs.Prelude.{ℕ, ◌≡◌, ◌-◌, ◌<◌, ◌⊎◌, ◌==◌, ◌&&◌, max, List, [], ◌∷◌, ◌++◌, map, filter, fold, find, take, length, replicate, Option, if◌then◌else◌, codes}
 use Rattle.std.specs.List.{All, AllAdjacentBelow, list_any, flat_map, join_with_byte, dedup, range_with_len, suffix_len}
 use Rattle.std.specs.Option.{option_map_or}
 use Rattle.bcd.specs.Table.{glyph_of, byte}
 use Rattle.units.specs.declared.printer.Line.{Line}
+use Rattle.units.specs.declared.ranges.Place.{Place}
 use Rattle.cards.specs.Files.{line_feed}
 
 -- the glyphs that the printer's chain does not have
@@ -85,3 +87,30 @@ IsAbove x y = (x.form < y.form) ⊎ ((x.form ≡ y.form) × (x.line < y.line))
 pub record IsRising (lines : List Line) : Type 0 where
   pub on_forms : All (λ l. (0 < l.form) × (0 < l.line)) lines
   pub in_order : AllAdjacentBelow IsAbove lines (length lines)
+
+-- ---- a listing that is written while its lines are printed
+
+-- the form of the last of these lines, 0 if there is none
+abbrev pub last_form : List Line → ℕ
+last_form lines = fold (λ _ form. form) 0 (map (λ l. l.form) lines)
+
+-- these bytes are the listing of these lines, which has come to this line of this form, 0 of 0 where
+-- it begins
+pub record IsListedTo (lines : List Line) (bytes : List ℕ) (on number : ℕ) : Type 0 where
+  pub text : bytes ≡ rendered lines
+  pub form : on ≡ last_form lines
+  pub done : number ≡ last_line lines on
+  pub none : on ≡ 0 → lines ≡ []
+
+-- a listing that is being written: the piece of it that is not written yet, and the place to which
+-- it has come
+pub record Unwritten : Type 0 where
+  pub piece : List ℕ
+  pub place : Place
+
+-- what was written since the first of these, and behind it the piece, is the listing of these lines
+pub record HasListed (first now : Option (List ℕ)) (w : Unwritten) (lines : List Line) : Type 0
+  where
+    pub bytes : List ℕ
+    pub written : Appends first (append_known now w.piece) bytes
+    pub listed : IsListedTo lines bytes w.place.form w.place.line

@@ -5,7 +5,7 @@
 //! layers above: what a unit does is a definition on storage and unit (`specs/Units.antt`,
 //! `specs/Carriages.antt`), or the first check that applies, and then nothing is changed. `operate`
 //! does the work of several units in one operation. Memory is taken for a punched card, for a
-//! printed line, by `render` and by `write_listing`; if there is none, nothing is changed. Units in
+//! printed line, by `render` and by a `ListingWriter`; if there is none, nothing is changed. Units in
 //! range stay in range (`specs/Ranges.antt`). Cards and lines that were made before and are kept
 //! elsewhere are only counted. `choose_pocket` chooses the pocket of the next card
 //! (`specs/Pockets.antt`), unless the machine's profile has no stacker selection.
@@ -22,6 +22,7 @@ mod devices;
 mod fault;
 mod laws;
 mod listing;
+mod listing_writer;
 mod operation;
 mod pockets;
 mod printer;
@@ -38,7 +39,8 @@ pub use carriage::{
 pub use devices::Devices;
 pub use fault::Fault;
 pub use laws::{lines_in_range_rise, operating_only_adds, operating_stays_in_range};
-pub use listing::{ListingFault, render, write_listing};
+pub use listing::render;
+pub use listing_writer::ListingWriter;
 pub use operation::operate;
 pub use pockets::Pocket;
 pub use printer::{LINE_LENGTH, Line, MOST_LINES, Printer, print_line};

@@ -1,56 +1,24 @@
 //! Listings: printed lines as a text.
 
 ghost use Rattle.std.specs.{
-  Prelude.{◌≡◌, ◌≢◌, ◌≤◌, ◌<◌, ◌+◌, ◌-◌, ◌++◌, ◌∷◌, ℕ, [], length, map, take, replicate, slice_index, vec_len, ◌↔◌, IsTrue, IfOk, IfErr, OnOk},
+  Prelude.{◌≡◌, ◌≢◌, ◌≤◌, ◌<◌, ◌+◌, ◌-◌, ◌++◌, ◌∷◌, ℕ, [], length, map, take, replicate, slice_index, vec_len, ◌↔◌, IsTrue, IfOk},
   Vec.{vec_capacity},
-  Io.KnownBytes.{Appends, Keeps, append_known},
 };
 ghost use Rattle.units.specs.Listing.{shown, blank, text_of, form_feed_between, done_on, added_after, most_added, rendered, IsRising};
 ghost use Rattle.cards.specs.Files.{line_feed};
-ghost use Rattle.units.specs.declared.listing.ListingFault.TheVariants.{Memory, Output};
 
 use crate::printer::{LINE_LENGTH, Line};
 use bcd::Code;
 use cards::LINE_FEED;
 use std::alloc::{AllocError, Global};
-use std::io;
-use std::io::Write;
 
 const FORM_FEED: u8 = 12;
 
 /// The most bytes that a printed line adds to a listing.
-const MOST_ADDED: usize = 389;
-
-/// The number of bytes of a listing that are written at once.
-const PIECE: usize = 65_536;
+pub(crate) const MOST_ADDED: usize = 389;
 
 /// The number of characters that are looked at at once for blanks at the end of a line.
 const BLOCK: usize = 16;
-
-/// Why a listing was not written whole.
-#[derive(Clone, Copy, Debug, PartialEq, Eq)]
-pub enum ListingFault {
-    /// There is no memory for a piece of it. Nothing was written.
-    Memory,
-    /// The writer failed. It may have taken some of the listing.
-    Output,
-}
-
-impl From<AllocError> for ListingFault {
-    ghost from_gives = { λ _ fault. fault ≡ Memory };
-
-    fn from(_error: AllocError) -> Self {
-        ListingFault::Memory
-    }
-}
-
-impl From<io::Error> for ListingFault {
-    ghost from_gives = { λ _ fault. fault ≡ Output };
-
-    fn from(_error: io::Error) -> Self {
-        ListingFault::Output
-    }
-}
 
 /// The byte that the printer shows for each character. Thirteen characters are not on its chain.
 const SHOWN: [u8; 64] = *b" 1234567890#@    /STUVWXYZ|,%   -JKLMNOPQR!$*   &ABCDEFGHI?.)   ";
@@ -163,7 +131,7 @@ fn done_on(form: u32, done: u8, next: u32) -> u8
 /// Adds what a printed line adds to a listing that has come to a line of a form, 0 of 0 where it
 /// begins.
 #[tactic(auto, unfolding(crate::specs::Listing::added_after))]
-fn push_listed(text: &mut Vec<u8>, form: u32, done: u8, line: &Line)
+pub(crate) fn push_listed(text: &mut Vec<u8>, form: u32, done: u8, line: &Line)
     requires { vec_len text.old + most_added ≤ vec_capacity text.old }
     ensures items { text.new.items ≡ text.old.items ++ added_after form done line.now }
     ensures capacity { vec_capacity text.old ≤ vec_capacity text.new }
@@ -190,57 +158,4 @@ pub fn render(alloc: Global, lines: &[Line]) -> Result<Vec<u8>, AllocError>
         done = line.line;
     }
     Ok(text)
-}
-
-/// Writes a piece, and empties it.
-fn put_piece<W: Write>(output: &mut W, piece: &mut Vec<u8>) -> io::Result<()>
-    ensures kept { OnOk result (Keeps
-        (append_known (W.contents output.old) piece.old.items)
-        (append_known (W.contents output.new) piece.new.items)) }
-    ensures empty { OnOk result (piece.new.items ≡ []) }
-    ensures capacity { vec_capacity piece.new ≡ vec_capacity piece.old }
-{
-    output.write_all(piece.as_slice())?;
-    piece.clear();
-    Ok(())
-}
-
-/// Writes a piece, and empties it, if it has no room for what a line adds.
-fn make_room<W: Write>(output: &mut W, piece: &mut Vec<u8>) -> io::Result<()>
-    requires { most_added ≤ vec_capacity piece.old }
-    ensures kept { OnOk result (Keeps
-        (append_known (W.contents output.old) piece.old.items)
-        (append_known (W.contents output.new) piece.new.items)) }
-    ensures room { OnOk result (vec_len piece.new + most_added ≤ vec_capacity piece.new) }
-{
-    if piece.capacity() - piece.len() >= MOST_ADDED {
-        return Ok(());
-    }
-    put_piece(output, piece)
-}
-
-/// Writes the listing of printed lines that rise by form and line, as `render` returns it, piece by
-/// piece: no more than one piece of it is in memory, which is taken before anything is written.
-pub fn write_listing<W: Write>(
-    alloc: Global,
-    output: &mut W,
-    lines: &[Line],
-) -> Result<(), ListingFault>
-    ensures whole { IsRising lines.now → OnOk result
-        (Appends (W.contents output.old) (W.contents output.new) (rendered lines.now)) }
-    ensures nothing { IfErr result (λ fault. fault ≡ Memory
-        → Keeps (W.contents output.old) (W.contents output.new)) }
-{
-    let mut piece = Vec::with_capacity(alloc, PIECE)?;
-    let mut form = 0u32;
-    let mut done = 0u8;
-    for line in lines {
-        make_room(output, &mut piece)?;
-        push_listed(&mut piece, form, done, line);
-        form = line.form;
-        done = line.line;
-    }
-    put_piece(output, &mut piece)?;
-    output.flush()?;
-    Ok(())
 }

@@ -9,6 +9,7 @@ use crate::carriage::Carriage;
 use crate::fault::Fault;
 use bcd::Code;
 use core_store::{Check, Core};
+use std::alloc::AllocError;
 use std::marker::Model;
 
 /// The greatest number of lines that the printer makes.
@@ -45,6 +46,13 @@ impl Model for Printer {
 }
 
 impl Printer {
+    /// Takes memory for all lines that can be printed.
+    pub(crate) fn make_room(&mut self) -> Result<(), AllocError>
+        ensures { self.new ≡ self.old }
+    {
+        self.lines.reserve_exact(MOST_LINES)
+    }
+
     #[tactic(auto, unfolding(crate::specs::Units::line_printed))]
     /// Whether the printer has made its greatest number of lines, `before` earlier ones and these,
     /// or the carriage would pass the last form after one more.

@@ -13,6 +13,7 @@ use crate::pockets::Pocket;
 use crate::profiles::Profile;
 use cards::Card;
 use core_store::{Check, Core};
+use std::alloc::AllocError;
 use std::marker::Model;
 
 /// The greatest number of cards that the punch makes.
@@ -59,6 +60,13 @@ impl Punch {
         ensures { result ≡ length self.now.cards }
     {
         self.cards.len()
+    }
+
+    /// Takes memory for all cards that can be punched.
+    pub(crate) fn make_room(&mut self) -> Result<(), AllocError>
+        ensures { self.new ≡ self.old }
+    {
+        self.cards.reserve_exact(MOST_CARDS)
     }
 
     /// Removes all cards after the first `count`, and chooses this pocket again.

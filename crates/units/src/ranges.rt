@@ -11,9 +11,9 @@ use crate::units::Units;
 
 /// A form and a line on the printer's paper.
 #[derive(Clone, Copy)]
-struct Place {
-    form: u32,
-    line: u8,
+pub struct Place {
+    pub(crate) form: u32,
+    pub(crate) line: u8,
 }
 
 impl Place {
@@ -35,7 +35,7 @@ impl Place {
 
 impl Line {
     /// The place at which the line was printed.
-    fn place(&self) -> Place
+    pub(crate) fn place(&self) -> Place
         ensures { result ≡ line_place self.now }
     {
         Place {

@@ -8,6 +8,7 @@ use crate::punch::Punch;
 use crate::reader::Hopper;
 use crate::switches::Switches;
 use bitflags::Flags;
+use std::alloc::AllocError;
 
 /// How many cards and how many lines.
 #[derive(Clone, Copy)]
@@ -35,6 +36,15 @@ impl Units {
         ensures { result ≡ is_last_card self.now.switches self.now.hopper }
     {
         self.switches.contains(Switches::A) && self.hopper.is_empty()
+    }
+
+    /// Takes memory for all cards and lines that can be made, so that making them takes none. Fails
+    /// only if there is none.
+    pub fn make_room(&mut self) -> Result<(), AllocError>
+        ensures { self.new ≡ self.old }
+    {
+        self.punch.make_room()?;
+        self.printer.make_room()
     }
 
     /// How many cards were made in all: those before, and the punch's own.

@@ -11,15 +11,8 @@ use Rattle.command_line.specs.declared.statuses.Status.{Status}
 use Rattle.command_line.specs.declared.statuses.Status.TheVariants as status
 use Rattle.local_runs.specs.Runs.{Refuses, Tells}
 use Rattle.command_line.specs.Printed.{fault_words}
-use Rattle.local_runs.proofs.RunningLemmas.{kept, some_text}
+use Rattle.local_runs.proofs.RunningLemmas.{some_text, told}
 use Rattle.local_runs.proofs.running.run_deck.Goals as goal
-
--- a fault that was told, with nothing put out
-told : (text : List ℕ) (size : Size) (switches : Switches) (f : Fault) (ended : Status) (output errors_old errors_new : Option (List ℕ))
-    → Refuses text f → (ended ≡ status.NotDone) × Appends errors_old errors_new (fault_words f ++ 10 ∷ [])
-    → Tells text size switches ended output output errors_old errors_new
-told text size switches f ended output errors_old errors_new refused is =
-    (Err f, refused, record { status = is.0; output = inr (kept output); errors = is.1 })
 
 -- a reader's fault says nothing of the text
 unread : (text : List ℕ) (f : Fault) → (f ≡ fault.Card out_of_memory) ⊎ (f ≡ fault.Device) → Refuses text f
