@@ -2,6 +2,7 @@
 use Rattle.std.proofs.Common.{◌≡◌, ◌≢◌, ℕ, ◌<◌, ◌==◌, ◌&&◌, not, Bool, true, false, Option, Some, None, Ok, ◌⊎◌, inl, inr, refl, sym, ap, ◌∙◌, arith, length, is_some}
 use Rattle.std.proofs.lemmas.Bool.{lt-ltb}
 use Rattle.std.proofs.lemmas.Bool.Decides.{eqb_tells}
+use Rattle.core_store.specs.Checked.{and_then}
 use Rattle.core_store.specs.Storage.{Storage}
 use Rattle.core_store.specs.declared.registers.Registers.{Registers}
 use Rattle.addresses.specs.Addresses.{Tagged}
@@ -14,6 +15,7 @@ use Rattle.machine.specs.declared.shapes.Shape.{Shape}
 use Rattle.machine.specs.Effect.{Works, after_branch, effect, works_of}
 use Rattle.machine.specs.Glyphs.{is_glyph}
 use Rattle.machine.specs.Instructions.{decoded_by, operation_by}
+use Rattle.machine.specs.Kinds.{shape_effect}
 use Rattle.machine.specs.Shapes.{instruction_at, operands_at}
 use Rattle.machine.specs.Word.{LooksInside}
 use Rattle.machine.specs.declared.named.Modifier.{Modifier}
@@ -45,6 +47,17 @@ module _ (s : Storage) (r : Registers) where
   pub two_placed : (address other : Tagged) (a b : ℕ) → position_of s address ≡ Ok a → position_of s other ≡ Ok b → operands_at s r (Two address other) ≡ Ok (a, b)
   unfolding operands_at
   two_placed address other a b found then = rw (found, then) refl
+
+-- what is done at the positions of the moment
+pub placed_effect : (shape : Shape) (positions : ℕ × ℕ) (next : ℕ) (w : Works) → operands_at w.storage w.registers shape.addresses ≡ Ok positions →
+    shape_effect shape next w ≡ effect (operation_by shape.first) (decoded_by (instruction_at shape positions.0 positions.1)) next w
+unfolding shape_effect
+placed_effect shape positions next w found =
+    ap (λ o. and_then o (λ operands. effect (operation_by shape.first) (decoded_by (instruction_at shape operands.0 operands.1)) next w)) found
+
+-- register I put where it is
+pub same_i : (r : Registers) (next : ℕ) → r.i ≡ next → record r { i = next } ≡ r
+same_i r next same = rw (← same) refl
 
 -- a branch leaves all but the registers
 pub branch_done : (shape : Shape) (a b next : ℕ) (w : Works) (after : Registers) → is_glyph shape.first (codes "B") ≡ true → after ≡ after_branch (decoded_by (instruction_at shape a b)) next w →

@@ -16,6 +16,7 @@ use Rattle.machine.specs.declared.shapes.Addresses.TheVariants.{Absent, One, Two
 use Rattle.machine.specs.declared.shapes.Shape.{Shape}
 use Rattle.machine.specs.Effect.{Works, attempt, effect, next_of}
 use Rattle.machine.specs.Instructions.{addresses_by, decoded_by, is_form, is_last, modifier_by, operation_by}
+use Rattle.machine.specs.Kinds.{shape_effect}
 use Rattle.machine.specs.Shapes.{addresses_of, has_two, instruction_at, operands_at, shape_at, shape_of, tagged_at}
 use Rattle.machine.specs.Word.{LooksInside, decoded_of, operand_at, operands_of, word, word_length}
 use Rattle.machine.proofs.DecodeLemmas.{form_refused, last_refused, looks_inside, operands_refused, whole_decoded}
@@ -254,6 +255,16 @@ module _ (w : Works) (inside : w.registers.i < length w.storage) where
       let has = has_shape s i shape h in
       attempt_check w has.count check inside (sym has.found) (length_most s i has.count has.found).1
       (sym (operands_unread has.count (codes_from s i has.count) s w.registers shape check has.read found))
+
+  placed_by : (shape : Shape) (found : Result (ℕ × ℕ) Check) → shape_at w.storage w.registers.i ≡ Ok shape → operands_at w.storage w.registers shape.addresses ≡ found →
+      attempt w ≡ and_then found (λ operands. effect (operation_by shape.first) (decoded_by (instruction_at shape operands.0 operands.1)) (next_of w.registers.i shape.length) w)
+  placed_by shape (Ok (a, b)) h found = attempt_shaped shape a b h found
+  placed_by shape (Err check) h found = attempt_refused shape check h found
+
+  -- what its shape leaves at the positions at which it works just then
+  pub attempt_by_shape : (shape : Shape) → shape_at w.storage w.registers.i ≡ Ok shape → attempt w ≡ shape_effect shape (next_of w.registers.i shape.length) w
+  unfolding shape_effect
+  attempt_by_shape shape h = placed_by shape (operands_at w.storage w.registers shape.addresses) h refl
 
   attempt_wordless : word_length w.storage w.registers.i ≡ None → attempt w ≡ Err Instruction
   unfolding attempt word

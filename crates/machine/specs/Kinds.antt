@@ -1,13 +1,18 @@
 -- the usual instructions, which are executed at once, and what is kept of an instruction
-use Rattle.std.specs.Prelude.{ℕ, ◌≡◌, ◌==◌, ◌%◌, slice_index_or, ◌&&◌, not, ◌<◌, ◌≤◌, length, List, Bool, true, false, Ok, codes}
+use Rattle.std.specs.Prelude.{ℕ, ◌≡◌, ◌==◌, ◌%◌, slice_index_or, ◌&&◌, not, ◌<◌, ◌≤◌, length, List, Bool, true, false, Result, Ok, codes}
+use Rattle.core_store.specs.Checked.{and_then}
 use Rattle.core_store.specs.Storage.{Storage}
+use Rattle.core_store.specs.declared.checks.Check.{Check}
 use Rattle.core_store.specs.declared.registers.Registers.{Registers}
 use Rattle.machine.specs.declared.cache.Entry.{Entry}
 use Rattle.machine.specs.declared.kinds.Kind.{Kind}
-use Rattle.machine.specs.declared.kinds.Kind.TheVariants.{Add, Subtract, Compare, ZeroAdd, ZeroSubtract, ModifyAddress, Move, Load, Suppress, Edit, Branch, BranchOnCondition, BranchOnCharacter, BranchOnTest, Other}
+use Rattle.machine.specs.declared.kinds.Kind.TheVariants.{Add, Subtract, Compare, ZeroAdd, ZeroSubtract, ModifyAddress, Move, Load, Suppress, Edit, Branch, BranchOnCondition, BranchOnCharacter, BranchOnTest, IndexedMove, IndexedBranch, Other}
 use Rattle.machine.specs.declared.shapes.Shape.{Shape}
+use Rattle.machine.specs.declared.operations.Course.{Course}
+use Rattle.machine.specs.Effect.{Works, effect}
 use Rattle.machine.specs.Glyphs.{is_glyph}
-use Rattle.machine.specs.Shapes.{operands_at, shape_at, IsShapeOf}
+use Rattle.machine.specs.Instructions.{decoded_by, operation_by}
+use Rattle.machine.specs.Shapes.{instruction_at, operands_at, shape_at, IsShapeOf}
 
 -- whether an instruction of this shape is of this kind, by its first character and its length
 abbrev pub is_of_kind : Kind → Shape → Bool
@@ -26,9 +31,11 @@ is_of_kind Branch shape =
 is_of_kind BranchOnCondition shape = is_glyph shape.first (codes "B") && shape.length == 5
 is_of_kind BranchOnCharacter shape = is_glyph shape.first (codes "B") && shape.length == 8
 is_of_kind BranchOnTest shape = is_glyph shape.first (codes "V")
+is_of_kind IndexedMove shape = is_glyph shape.first (codes "M")
+is_of_kind IndexedBranch shape = is_glyph shape.first (codes "B") && shape.length == 8
 is_of_kind Other shape = true
 
--- whether instructions of this kind are executed at once
+-- whether instructions of this kind are executed at once at positions that are kept
 abbrev pub is_usual : Kind → Bool
 is_usual Add = true
 is_usual Subtract = true
@@ -44,9 +51,11 @@ is_usual Branch = true
 is_usual BranchOnCondition = true
 is_usual BranchOnCharacter = true
 is_usual BranchOnTest = true
+is_usual IndexedMove = false
+is_usual IndexedBranch = false
 is_usual Other = false
 
--- whether they work on fields
+-- whether they work on fields at such positions
 abbrev pub is_on_fields : Kind → Bool
 is_on_fields Add = true
 is_on_fields Subtract = true
@@ -62,7 +71,17 @@ is_on_fields Branch = false
 is_on_fields BranchOnCondition = false
 is_on_fields BranchOnCharacter = false
 is_on_fields BranchOnTest = false
+is_on_fields IndexedMove = false
+is_on_fields IndexedBranch = false
 is_on_fields Other = false
+
+-- what an instruction of this shape leaves, at the positions at which it works just then, or the
+-- check that stops it, where `next` is the position after it
+unfoldable pub shape_effect : Shape → ℕ → Works → Result (Works × Course) Check
+shape_effect shape next w =
+    and_then (operands_at w.storage w.registers shape.addresses) (λ operands.
+    effect (operation_by shape.first) (decoded_by (instruction_at shape operands.0 operands.1)) next
+    w)
 
 -- an instruction of this shape works at these positions in each storage of this size, whatever
 -- stands there and in the registers

@@ -42,7 +42,8 @@ pub struct Key {
 pub struct Entry {
     characters: u64,
     marks: u16,
-    /// Another one where the characters alone do not tell at which positions it works.
+    /// An indexed one, or another, where the characters alone do not tell at which positions it
+    /// works.
     pub kind: Kind,
     /// The positions at which it works, if it is of a usual kind.
     pub a: u16,
@@ -141,7 +142,10 @@ impl Entry {
             shape,
         };
         let Some((a, b)) = fixed_positions(&shape, size) else {
-            return other;
+            return Entry {
+                kind: Kind::of_indexed(&shape),
+                ..other
+            };
         };
         let kind = Kind::of_shape(&shape);
         if kind.is_on_fields() && (a < 16 || b < 16) {

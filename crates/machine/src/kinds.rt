@@ -1,9 +1,9 @@
 //! The kinds of instructions: those that are executed at once, and all others.
 
-ghost use Rattle.std.specs.Prelude.{◌≡◌, true, codes};
+ghost use Rattle.std.specs.Prelude.{◌≡◌, true, false, codes};
 ghost use Rattle.machine.specs.{
   Glyphs.{is_glyph},
-  Kinds.{is_of_kind, is_on_fields},
+  Kinds.{is_of_kind, is_on_fields, is_usual},
 };
 
 use crate::characters::*;
@@ -40,6 +40,10 @@ pub enum Kind {
     BranchOnCharacter,
     /// `V`.
     BranchOnTest,
+    /// `M`, if index locations or the registers tell its positions.
+    IndexedMove,
+    /// `B` of eight characters, if index locations tell its positions.
+    IndexedBranch,
     /// All others, and those above that cannot be done at once.
     Other,
 }
@@ -58,6 +62,7 @@ fn branch_of(shape: &Shape) -> Kind
 
 impl Kind {
     /// The kind of an instruction.
+    #[inline(always)]
     pub fn of_shape(shape: &Shape) -> Kind
         ensures { is_of_kind result shape.now ≡ true }
     {
@@ -78,7 +83,20 @@ impl Kind {
         }
     }
 
-    /// Whether instructions of this kind work on fields.
+    /// The kind of an instruction that does not tell its positions by its characters alone.
+    pub fn of_indexed(shape: &Shape) -> Kind
+        ensures kind { is_of_kind result shape.now ≡ true }
+        ensures usual { is_usual result ≡ false }
+        ensures fields { is_on_fields result ≡ false }
+    {
+        match Kind::of_shape(shape) {
+            Kind::Move => Kind::IndexedMove,
+            Kind::BranchOnCharacter => Kind::IndexedBranch,
+            _ => Kind::Other,
+        }
+    }
+
+    /// Whether instructions of this kind work on fields whose positions are kept.
     pub fn is_on_fields(self) -> bool
         ensures { result ≡ is_on_fields self }
     {
@@ -87,6 +105,8 @@ impl Kind {
             | Kind::BranchOnCondition
             | Kind::BranchOnCharacter
             | Kind::BranchOnTest
+            | Kind::IndexedMove
+            | Kind::IndexedBranch
             | Kind::Other => false,
             _ => true,
         }

@@ -240,7 +240,7 @@ pub fn branch<C: Core>(
 }
 
 /// Branches if the position at the second address passes the test that the last character names.
-#[inline(never)]
+#[inline(always)]
 pub fn branch_on_test<C: Core>(
     core: &C,
     registers: &mut Registers,
