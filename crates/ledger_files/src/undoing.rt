@@ -31,7 +31,8 @@ pub(crate) enum Undoing {
     Keep,
     /// The log is removed: it was not there, and has no transaction.
     Remove,
-    /// The log is cut to this length: what an open adds to a log is shorter than a transaction.
+    /// The log is cut to this length: what an open adds to a log, or writes where there was no
+    /// byte, is shorter than a transaction.
     Cut(u64),
 }
 
@@ -43,6 +44,8 @@ impl Undoing {
     {
         match before {
             None if now <= EMPTY_LOG => Undoing::Remove,
+            Some(0) if now == 0 => Undoing::Keep,
+            Some(0) if now <= EMPTY_LOG => Undoing::Cut(0),
             Some(before) if now.checked_sub(before) == Some(ADDED) => Undoing::Cut(before),
             _ => Undoing::Keep,
         }
