@@ -31,7 +31,7 @@ Undoes before now (undoing.Cut length) = (before ≡ Some length)
     × ((now ≡ length + 9) ⊎ ((length ≡ 0) × (0 < now) × (now ≤ 41)))
 Undoes before now undoing.Keep = (before ≡ None → 41 < now)
     × ((length : ℕ) → before ≡ Some length →
-        (now ≢ length + 9) × (length ≡ 0 → 0 < now → 41 < now))
+    (now ≢ length + 9) × (length ≡ 0 → 0 < now → 41 < now))
 
 -- the fault where a path or a file cannot be used, by the kind of the error
 abbrev pub path_fault : ErrorKind → OpenFault
