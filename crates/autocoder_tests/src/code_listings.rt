@@ -1,6 +1,6 @@
 //! Worked listings that show the assembled code, word for word.
 
-use crate::coding_sheets::deck_of;
+use crate::coding_sheets::{deck_of, text_of};
 use autocoder::assemble;
 use autocoder_listings::listing_with_code;
 use std::alloc::Global;
@@ -12,11 +12,7 @@ fn listed(alloc: Global, sheet: &str) -> Result<String, Fail> {
     let Ok(program) = assemble(alloc, &deck) else {
         return Err(Fail::from("a program"));
     };
-    let mut text = String::new(alloc);
-    for glyph in &listing_with_code(alloc, &deck, &program)? {
-        text.push(*glyph as char)?;
-    }
-    Ok(text)
+    text_of(alloc, &listing_with_code(alloc, &deck, &program)?)
 }
 
 /// A constant of two rows, and a literal.

@@ -41,6 +41,15 @@ pub(crate) fn deck_of(alloc: Global, sheet: &str) -> Result<Deck, Fail> {
     Ok(deck)
 }
 
+/// The text of some glyphs.
+pub(crate) fn text_of(alloc: Global, glyphs: &[u8]) -> Result<String, Fail> {
+    let mut text = String::new(alloc);
+    for glyph in glyphs {
+        text.push(*glyph as char)?;
+    }
+    Ok(text)
+}
+
 /// Adds the glyphs of some characters.
 pub(crate) fn push_glyphs(text: &mut String, codes: &[Code]) -> Result<(), Fail> {
     for code in codes {

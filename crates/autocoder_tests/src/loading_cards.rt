@@ -1,7 +1,7 @@
 //! A worked program with its listing, the cards that load it, and those of its data. More of them
 //! are in `cases/assemblies`, which the program assembles.
 
-use crate::coding_sheets::{deck_of, lines_of};
+use crate::coding_sheets::{deck_of, lines_of, text_of};
 use autocoder::{Program, assemble, listing};
 use autocoder_layout::SourceFault;
 use bcd::Code;
@@ -60,11 +60,7 @@ fn listed(alloc: Global, sheet: &str) -> Result<String, Fail> {
     let Ok(program) = assemble(alloc, &deck) else {
         return Err(Fail::from("a program"));
     };
-    let mut text = String::new(alloc);
-    for glyph in &listing(alloc, &deck, &program)? {
-        text.push(*glyph as char)?;
-    }
-    Ok(text)
+    text_of(alloc, &listing(alloc, &deck, &program)?)
 }
 
 /// The cards that load the program of a sheet's source.

@@ -16,21 +16,21 @@ const FAULT_2: &str = "Answered { status: 503, sent: 118 }: HTTP/1.1 503 Service
     \r\n\
     {\"fault\":2}, 0 left\n";
 
-/// The text of a submission in a script and the card of the job: it prints a line and punches a
-/// card.
-fn submitted(alloc: Global) -> Result<String, Fail> {
-    Ok(format!(in alloc;
-        "submit ACME 9 object 1400 - 1\n{:80}\n",
-        ",008015,022029,030031,03203624.B029"
-    )?)
+/// A job that prints a line and punches a card: its machine, and its card.
+const PRINTING: [&str; 2] = ["1400 -", ",008015,022029,030031,03203624.B029"];
+
+/// A script that submits a job, before these lines.
+fn script_with(alloc: Global, [machine, card]: [&str; 2], lines: &str) -> Result<String, Fail> {
+    Ok(format!(in alloc; "submit ACME 9 object {machine} 1\n{card:80}\n{lines}")?)
 }
 
 #[test]
 fn a_script_that_meets_a_failure_ends_with_fault_2(rt: HostRuntime) -> Result<(), Fail> {
     let alloc = rt.alloc();
-    let script = format!(in alloc;
-        "{}slice ACME 9 1\nslice ACME 9 2000\nqueue\n",
-        submitted(alloc)?
+    let script = script_with(
+        alloc,
+        PRINTING,
+        "slice ACME 9 1\nslice ACME 9 2000\nqueue\n",
     )?;
     let calls = [
         script_of(script.as_str().as_bytes()),
@@ -52,7 +52,7 @@ fn a_script_that_meets_a_failure_ends_with_fault_2(rt: HostRuntime) -> Result<()
 #[test]
 fn a_request_that_meets_a_failure_is_answered_503(rt: HostRuntime) -> Result<(), Fail> {
     let alloc = rt.alloc();
-    let submission = submitted(alloc)?;
+    let submission = script_with(alloc, PRINTING, "")?;
     let calls = [
         script_of(submission.as_str().as_bytes()),
         request_of(b"POST /c/ACME/j/9/slice/2000 HTTP/1.1\r\n\r\n"),
@@ -75,10 +75,7 @@ fn a_request_that_meets_a_failure_is_answered_503(rt: HostRuntime) -> Result<(),
 #[test]
 fn slices_of_scripts_and_of_requests_are_counted(rt: HostRuntime) -> Result<(), Fail> {
     let alloc = rt.alloc();
-    let script = format!(in alloc;
-        "submit ACME 9 object 4000 A 1\n{:80}\nslice ACME 9 34\n",
-        ",008012B008"
-    )?;
+    let script = script_with(alloc, ["4000 A", ",008012B008"], "slice ACME 9 34\n")?;
     let calls = [
         script_of(script.as_str().as_bytes()),
         request_of(b"POST /c/ACME/j/9/slice/2000 HTTP/1.1\r\n\r\n"),
@@ -93,11 +90,8 @@ fn slices_of_scripts_and_of_requests_are_counted(rt: HostRuntime) -> Result<(), 
 #[test]
 fn the_attempt_at_a_full_punch_is_counted(rt: HostRuntime) -> Result<(), Fail> {
     let alloc = rt.alloc();
-    let script = format!(in alloc;
-        "submit ACME 9 object 1400 - 1\n{:80}\n{}",
-        ",008015,0150194015",
-        "slice ACME 9 2000\n".repeat(alloc, 7)?
-    )?;
+    let slices = "slice ACME 9 2000\n".repeat(alloc, 7)?;
+    let script = script_with(alloc, ["1400 -", ",008015,0150194015"], slices.as_str())?;
     assert_eq!(rt;
         told_by(alloc, "", &[script_of(script.as_str().as_bytes())])?,
         format!(in alloc;

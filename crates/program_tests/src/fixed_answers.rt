@@ -2,42 +2,36 @@
 
 use http::StatusCode;
 use http_messages::{Fault, refusal_answer};
+use std::alloc::Global;
 use std::test::Fail;
 
-/// The answer of fault 1.
-const NO_MEMORY: &[u8] = b"HTTP/1.1 503 Service Unavailable\r\n\
-    Content-Type: application/json\r\n\
-    Content-Length: 11\r\n\
-    Connection: close\r\n\
-    \r\n\
-    {\"fault\":1}";
-
-/// The answer of fault 2.
-const STORE: &[u8] = b"HTTP/1.1 503 Service Unavailable\r\n\
-    Content-Type: application/json\r\n\
-    Content-Length: 11\r\n\
-    Connection: close\r\n\
-    \r\n\
-    {\"fault\":2}";
-
-/// The answer of fault 3.
-const NO_ROOM: &[u8] = b"HTTP/1.1 500 Internal Server Error\r\n\
-    Content-Type: application/json\r\n\
-    Content-Length: 11\r\n\
-    Connection: close\r\n\
-    \r\n\
-    {\"fault\":3}";
-
-/// Whether a fault has this status, number and answer.
-fn is_told(fault: Fault, status: u16, number: u8, answer: &[u8]) -> bool {
-    fault.status().as_u16() == status && fault.number() == number && fault.answer() == answer
+/// The answer that tells a fault of this number, with this status.
+fn answer_of(alloc: Global, status: u16, reason: &str, number: u8) -> Result<String, Fail> {
+    Ok(format!(in alloc;
+        "HTTP/1.1 {status} {reason}\r\n\
+        Content-Type: application/json\r\n\
+        Content-Length: 11\r\n\
+        Connection: close\r\n\
+        \r\n\
+        {{\"fault\":{number}}}"
+    )?)
 }
 
 #[test]
 fn faults_of_the_bureau_are_told(rt: HostRuntime) -> Result<(), Fail> {
-    assert!(rt; is_told(Fault::NoMemory, 503, 1, NO_MEMORY));
-    assert!(rt; is_told(Fault::Store, 503, 2, STORE));
-    assert!(rt; is_told(Fault::NoMemoryForReply, 500, 3, NO_ROOM));
+    for (fault, status, reason, number) in [
+        (Fault::NoMemory, 503, "Service Unavailable", 1),
+        (Fault::Store, 503, "Service Unavailable", 2),
+        (Fault::NoMemoryForReply, 500, "Internal Server Error", 3),
+    ] {
+        let answer = answer_of(rt.alloc(), status, reason, number)?;
+        assert_eq!(rt; fault.status().as_u16(), status);
+        assert_eq!(rt; fault.number(), number);
+        assert!(rt;
+            fault.answer() == answer.as_str().as_bytes(),
+            "fault {number}"
+        );
+    }
     assert!(rt; refusal_answer(StatusCode::OK) == refusal_answer(StatusCode::BAD_REQUEST));
     Ok(())
 }
