@@ -12,5 +12,6 @@ pub mod LaneSums
 pub mod SumLanes
 pub mod LaneCarries
 pub mod WordBytes
+pub mod WordHalves
 pub mod WordDifferences
 pub mod SumDifferences

@@ -1,22 +1,14 @@
--- the digits of a number, the lowest first, and its halves
-use Rattle.std.proofs.Common.{◌≡◌, ◌++◌, ℕ, zero, suc, ◌+◌, ◌*◌, ◌/◌, ◌%◌, ◌-◌, ◌^◌, ◌<◌, All, cond, ltb, List, [], ◌∷◌, refl, sym, ◌∙◌, ap, arith, length, map, min, replicate, reverse}
-use Rattle.std.specs.Simd.Lanes.{digits_l, number_l, pick_l, sel_l, zip2}
+-- the digits of a number, the lowest first, and each after a difference in base 256
+use Rattle.std.proofs.Common.{◌≡◌, ◌++◌, ℕ, zero, suc, ◌+◌, ◌*◌, ◌%◌, ◌-◌, ◌^◌, ◌<◌, All, cond, ltb, List, [], ◌∷◌, refl, sym, ◌∙◌, ap, arith, length, map, min, replicate, reverse}
+use Rattle.std.specs.Simd.Lanes.{number_l, sel_l, zip2}
 use Rattle.std.proofs.Math.Decide.{dec_lt}
 use Rattle.std.proofs.Math.Nat.{pow-suc}
 use Rattle.std.proofs.lemmas.Bool.{lt-ltb, le-ltb}
 use Rattle.std.proofs.lemmas.List.{reverse-append, length-reverse, get_or-reverse, map-append}
-use Rattle.std.proofs.lemmas.List.Elements.{All-head, All-tail}
-use Rattle.std.proofs.lemmas.Simd.{pick_l_left, pick_l_whole}
 use Rattle.arith.specs.Columns.{number}
-use Rattle.arith.specs.Words.{bytes_of, digit_of_byte, word_of}
+use Rattle.arith.specs.Words.{digit_of_byte}
 
 -- ---- in reverse order
-
-abbrev pub backwards : List ℕ
-backwards = 15 ∷ 14 ∷ 13 ∷ 12 ∷ 11 ∷ 10 ∷ 9 ∷ 8 ∷ 7 ∷ 6 ∷ 5 ∷ 4 ∷ 3 ∷ 2 ∷ 1 ∷ 0 ∷ []
-
-turned : (xs : List ℕ) → length xs ≡ 16 → pick_l 0 (xs ++ xs) backwards ≡ reverse xs
-turned xs long = pick_l_left 0 xs xs 16 backwards long tt ∙ ap reverse (pick_l_whole 0 xs 16 long)
 
 pub all_reversed : (P : ℕ → Type 0) (xs : List ℕ) → All P xs → All P (reverse xs)
 all_reversed P xs all k d lt =
@@ -52,32 +44,6 @@ number_reversed (d ∷ ds) =
     ∙ swapped (number ds) (d * 10 ^ length ds) where
       swapped : (x y : ℕ) → x + y ≡ y + x
       swapped x y = omega arith
-
--- ---- halves
-
-word_below : (n : ℕ) (xs : List ℕ) → length xs ≡ n → All (λ x. x < 10) xs → number_l 256 xs < 256 ^ n
-word_below zero [] e all = omega arith
-word_below zero (x ∷ xs) e all = absurd (omega arith)
-word_below (suc n) [] e all = absurd (omega arith)
-word_below (suc n) (x ∷ xs) e all =
-    let small : x < 10 = All-head (λ d. d < 10) x xs all in
-    let rest : number_l 256 xs < 256 ^ n = word_below n xs (omega arith) (All-tail (λ d. d < 10) x xs all) in
-    omega (arith, small, rest, pow-suc 256 n)
-
-halves_joined : (n : ℕ) → n < 2 ^ 128 → n / 2 ^ 64 % 2 ^ 64 * 2 ^ 64 + n % 2 ^ 64 ≡ n
-halves_joined n h = omega arith
-
-halves_split : (n : ℕ) → n < 2 ^ 128 → n % 2 ^ 64 + 2 ^ 64 * (n / 2 ^ 64 + 2 ^ 64 * 0) ≡ n
-halves_split n h = omega arith
-
--- the two halves of sixteen digits
-pub joined : (digits : List ℕ) → length digits ≡ 16 → All (λ d. d < 10) digits → let n = number_l 256 (pick_l 0 (digits ++ digits) backwards) in n / 2 ^ 64 % 2 ^ 64 * 2 ^ 64 + n % 2 ^ 64 ≡ word_of digits
-joined digits long all =
-    let below : word_of digits < 256 ^ 16 = word_below 16 (reverse digits) (length-reverse digits ∙ long) (all_reversed (λ d. d < 10) digits all) in
-    ap (λ xs. number_l 256 xs / 2 ^ 64 % 2 ^ 64 * 2 ^ 64 + number_l 256 xs % 2 ^ 64) (turned digits long) ∙ halves_joined (word_of digits) (omega arith)
-
-pub split : (word : ℕ) → word < 2 ^ 128 → let xs = digits_l 256 16 (number_l (2 ^ 64) (word % 2 ^ 64 ∷ word / 2 ^ 64 ∷ [])) in pick_l 0 (xs ++ xs) backwards ≡ bytes_of word
-split word h = turned (digits_l 256 16 (number_l (2 ^ 64) (word % 2 ^ 64 ∷ word / 2 ^ 64 ∷ []))) refl ∙ ap bytes_of (halves_split word h)
 
 -- ---- the smaller of a byte and 10 more
 

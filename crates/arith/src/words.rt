@@ -19,8 +19,8 @@ fn word(digits: u8x16) -> u128
     requires digits { All (λ digit. digit < 10) digits }
     ensures { result ≡ word_of digits }
 {
-    let halves = u64x2::from_le_bytes(digits.reverse()).to_array();
-    halves[1] as u128 * HALF + halves[0] as u128
+    let halves = u64x2::from_le_bytes(digits).to_array();
+    halves[0].swap_bytes() as u128 * HALF + halves[1].swap_bytes() as u128
 }
 
 /// The sixteen digits of a number in base 256.
@@ -28,8 +28,8 @@ fn word(digits: u8x16) -> u128
 fn bytes(word: u128) -> u8x16
     ensures { result ≡ bytes_of word }
 {
-    let halves = u64x2::from_array([(word % HALF) as u64, (word / HALF) as u64]);
-    halves.to_le_bytes().reverse()
+    let (high, low) = ((word / HALF) as u64, (word % HALF) as u64);
+    u64x2::from_array([high.swap_bytes(), low.swap_bytes()]).to_le_bytes()
 }
 
 /// The digits of a difference that was taken in base 256.
