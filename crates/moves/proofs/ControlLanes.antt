@@ -1,88 +1,18 @@
 -- a control field of sixteen lanes that is filled and blanked at once
-use Rattle.std.proofs.Common.{◌≡◌, ◌≢◌, ℕ, zero, suc, ◌+◌, ◌-◌, ◌%◌, ◌<◌, ◌≤◌, ◌==◌, ◌&&◌, All, Bool, true, false, not, eqb, nat_le, if◌then◌else◌, List, [], ◌∷◌, refl, sym, ◌∙◌, ap, arith, length, get_or, drop, map, replicate, min, w8, codes}
+use Rattle.std.proofs.Common.{◌≡◌, ◌≢◌, ℕ, zero, suc, ◌-◌, ◌<◌, ◌≤◌, ◌==◌, ◌&&◌, All, Bool, true, false, not, eqb, nat_le, if◌then◌else◌, List, [], ◌∷◌, refl, sym, ◌∙◌, ap, arith, length, drop, map, min, codes}
 use Rattle.std.specs.Simd.Lanes.{sel_l, zip2}
-use Rattle.std.proofs.Math.Decide.{dec_lt}
-use Rattle.std.proofs.lemmas.Bool.{eqb-true, ne_eqb, le-leb, lt-leb, and_right}
-use Rattle.std.proofs.lemmas.List.{ext_get_or, length-drop, length-map, get_or-drop, get_or-map}
+use Rattle.std.proofs.lemmas.Bool.{eqb-true, ne_eqb, and_right}
+use Rattle.std.proofs.lemmas.List.{length-drop}
 use Rattle.std.proofs.lemmas.List.Elements.{All-nil, All-cons, All-head, All-tail, All-same, All-drop}
-use Rattle.std.proofs.lemmas.Simd.{swz_l, SwzOk, SwzOk-from_below, Each1-from_get_or, length-zip2, get_or-zip2, get_or-replicate, length-sel_l, get_or-sel_l, length-swz_l, get_or-swz_l_below}
 use Rattle.bcd.specs.Table.{glyph_of}
 use Rattle.bcd.proofs.Tables.{at_each}
 use Rattle.moves.specs.Blanked.{ends, leading, blanked}
 use Rattle.moves.specs.declared.blanking.Stop.TheVariants.{Digit}
 use Rattle.moves.specs.Characters.{is_any, blank, from_right}
 use Rattle.moves.specs.Edited.{is_place, places, places_right, filled_code, filled, through_zero, edited}
-use Rattle.moves.proofs.Copying.{from_right_past}
-use Rattle.moves.proofs.EditingLaw.{from_right_is}
 use Rattle.moves.proofs.FillingLemmas.{length-filled}
 use Rattle.moves.proofs.LaneLemmas.{is_place_by_number}
 use Rattle.moves.proofs.ControlPlaces.{without_zero}
-
--- ---- data brought to their places
-
-abbrev pub from_left : ℕ → ℕ → ℕ
-from_left x y = (x + (256 - y)) % 256
-
-module _ (data' places' : List ℕ) (long : length data' ≡ 16) (long' : length places' ≡ 16) (small : All (λ place. place < 16) places') where
-  abbrev indices : List ℕ
-  indices = zip2 from_left (replicate 16 15) places'
-
-  indices_long : length indices ≡ 16
-  indices_long = length-zip2 from_left (replicate 16 15) places' (sym long')
-
-  index : (k : ℕ) → k < 16 → get_or indices k 0 ≡ 15 - get_or places' k 0
-  index k lt =
-      let few : get_or places' k 0 < 16 = small k 0 (omega arith) in
-      let less : (15 + (256 - get_or places' k 0)) % 256 ≡ 15 - get_or places' k 0 = omega arith in
-      get_or-zip2 from_left (replicate 16 15) places' k 0 0 0 lt (omega arith) ∙ ap (λ x. from_left x (get_or places' k 0)) (get_or-replicate 16 k 15 0 lt) ∙ less
-
-  pub indices_fit : SwzOk w8 16 16 0 (zip2 from_left (replicate 16 15) places')
-  indices_fit =
-      SwzOk-from_below w8 16 1 16 0 indices refl (omega (arith, indices_long))
-      (Each1-from_get_or (λ j. j < 16) indices 0 (λ k lt. omega (arith, index k (omega (arith, indices_long)))))
-
-  brought : (k : ℕ) → k < 16 → get_or (swz_l w8 16 data' 0 indices) k 0 ≡ get_or data' (15 - get_or places' k 0) 0
-  brought k lt =
-      get_or-swz_l_below w8 16 data' 0 indices k (omega (arith, indices_long)) (omega (arith, index k lt)) ∙ ap (λ j. get_or data' j 0) (omega (arith, index k lt))
-
-  module _ (count : ℕ) (most : count ≤ 16) where
-    abbrev chosen : List ℕ
-    chosen = sel_l (map (λ key. nat_le count key) places') (replicate 16 0) (swz_l w8 16 data' 0 (zip2 from_left (replicate 16 15) places'))
-
-    digit_is : (place : ℕ) → place < 16 → (if nat_le count place then 0 else get_or data' (15 - place) 0) ≡ from_right (drop (16 - count) data') place
-    digit_is place lt =
-        let size : length (drop (16 - count) data') ≡ count = omega (arith, length-drop (16 - count) data') in
-        elim (dec_lt place count) [
-          | yes within ↦
-              let here : 16 - count + (length (drop (16 - count) data') - 1 - place) ≡ 15 - place = omega arith in
-              ap (λ b. if b then 0 else get_or data' (15 - place) 0) (lt-leb count place within)
-              ∙ sym (from_right_is (drop (16 - count) data') place (omega arith) ∙ get_or-drop (16 - count) data' (length (drop (16 - count) data') - 1 - place) 0 ∙ ap (λ j. get_or data' j 0) here)
-          | no past ↦
-              ap (λ b. if b then 0 else get_or data' (15 - place) 0) (le-leb count place (omega arith)) ∙ sym (from_right_past (drop (16 - count) data') place (omega arith))
-        ]
-
-    keys_long : length (map (λ key. nat_le count key) places') ≡ 16
-    keys_long = length-map places' (λ key. nat_le count key) ∙ long'
-
-    lanes_long : length (swz_l w8 16 data' 0 indices) ≡ 16
-    lanes_long = length-swz_l w8 16 data' 0 indices ∙ indices_long
-
-    chosen_long : length chosen ≡ 16
-    chosen_long = length-sel_l (map (λ key. nat_le count key) places') (replicate 16 0) (swz_l w8 16 data' 0 indices) keys_long (keys_long ∙ sym lanes_long) ∙ keys_long
-
-    pub data_brought : sel_l (map (λ key. nat_le count key) places') (replicate 16 0) (swz_l w8 16 data' 0 (zip2 from_left (replicate 16 15) places')) ≡ map (from_right (drop (16 - count) data')) places'
-    data_brought =
-        ext_get_or 0 chosen (map (from_right (drop (16 - count) data')) places') (chosen_long ∙ sym (length-map places' (from_right (drop (16 - count) data')) ∙ long'))
-        (λ k lt.
-        let within : k < 16 = omega (arith, chosen_long) in
-        let place = get_or places' k 0 in
-        let few : place < 16 = small k 0 (omega arith) in
-        get_or-sel_l (map (λ key. nat_le count key) places') (replicate 16 0) (swz_l w8 16 data' 0 indices) k 0 (omega (arith, keys_long)) within (omega (arith, lanes_long))
-        ∙ ap (λ b. if b then get_or (replicate 16 0) k 0 else get_or (swz_l w8 16 data' 0 indices) k 0) (get_or-map (λ key. nat_le count key) places' k 0 false (omega arith))
-        ∙ ap (λ x. if nat_le count place then x else get_or (swz_l w8 16 data' 0 indices) k 0) (get_or-replicate 16 k 0 0 within)
-        ∙ ap (λ x. if nat_le count place then 0 else x) (brought k within)
-        ∙ digit_is place few
-        ∙ sym (get_or-map (from_right (drop (16 - count) data')) places' k 0 0 (omega arith)))
 
 -- ---- characters that are kept
 

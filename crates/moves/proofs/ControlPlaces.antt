@@ -72,13 +72,13 @@ module _ (counts : List ℕ) (n : ℕ) (long : length counts ≡ 16) (few : n �
   later_is : later n counts ≡ chunk n 16 (counts ++ replicate 16 0)
   later_is = pick_l-range_with_len 0 (counts ++ replicate 16 0) n 16 room
 
-  later_long : length (later n counts) ≡ 16
+  pub later_long : length (later n counts) ≡ 16
   later_long = ap length later_is ∙ length-chunk n 16 (counts ++ replicate 16 0) room
 
   pub doubled_long : length (doubled n counts) ≡ 16
   doubled_long = length-zip2 wrapped counts (later n counts) (long ∙ sym later_long) ∙ long
 
-  get_or-later : (k : ℕ) → k < 16 → get_or (later n counts) k 0 ≡ get_or counts (k + n) 0
+  pub get_or-later : (k : ℕ) → k < 16 → get_or (later n counts) k 0 ≡ get_or counts (k + n) 0
   get_or-later k lt =
       let place : n + k ≡ k + n = omega arith in
       ap (λ l. get_or l k 0) later_is ∙ get_or-chunk n 16 (counts ++ replicate 16 0) k 0 lt ∙ ap (λ j. get_or (counts ++ replicate 16 0) j 0) place
@@ -106,7 +106,7 @@ module _ (counts : List ℕ) (n : ℕ) (long : length counts ≡ 16) (few : n �
             omega (arith, zero_lane, none_left control k (omega arith), none_left control (k + m) (omega arith))
       ]
 
-get_or-places_right : (control : List ℕ) (k : ℕ) → k < length control → get_or (places_right control) k 0 ≡ places (drop (suc k) control)
+pub get_or-places_right : (control : List ℕ) (k : ℕ) → k < length control → get_or (places_right control) k 0 ≡ places (drop (suc k) control)
 unfolding places_right
 get_or-places_right [] k lt = absurd (omega arith)
 get_or-places_right (c ∷ cs) zero lt = refl
@@ -154,3 +154,9 @@ right_small control right size is = All-same (λ place. place < 16) right (place
 
 pub right_long : (control right : List ℕ) → length control ≡ 16 → right ≡ places_right control → length right ≡ 16
 right_long control right size is = ap length is ∙ length-places_right control ∙ size
+
+-- nor more than there are lanes to its right
+pub right_within : (control right : List ℕ) → length control ≡ 16 → right ≡ places_right control → (lane : ℕ) → lane < 16 → get_or right lane 0 + lane < 16
+right_within control right size is lane lt =
+    let number : get_or right lane 0 ≡ places (drop (suc lane) control) = ap (λ l. get_or l lane 0) is ∙ get_or-places_right control lane (omega (arith, size, lt)) in
+    omega (arith, number, places_most (drop (suc lane) control), length-drop (suc lane) control, size, lt)

@@ -12,6 +12,7 @@ pub mod NearLemmas
 pub mod LoadingLemmas
 pub mod MovingNear
 pub mod ControlPlaces
+pub mod BroughtLanes
 pub mod ControlLanes
 pub mod ControlZero
 pub mod EditingNear

@@ -7,3 +7,4 @@ pub mod Loaded
 pub mod Blanked
 pub mod Suppressed
 pub mod Edited
+pub mod Brought

@@ -1,10 +1,27 @@
 //! The characters of a control field, filled with data and blanked at once, as lanes.
 
 ghost use Rattle.std.specs.{
-  Prelude.{◌≡◌, ◌-◌, ◌<◌, ◌≤◌, ◌==◌, ℕ, All, drop, length, map, nat_le, if◌then◌else◌},
+  Prelude.{
+    ◌≡◌,
+    ◌+◌,
+    ◌-◌,
+    ◌<◌,
+    ◌≤◌,
+    ◌==◌,
+    ℕ,
+    All,
+    true,
+    drop,
+    length,
+    map,
+    nat_le,
+    slice_index,
+    if◌then◌else◌,
+  },
   Simd.Lanes.{sel_l, zip2},
 };
 ghost use Rattle.moves.specs.{
+  Brought.{IsBrought},
   Characters.{from_right},
   Edited.{is_place, places_right, filled_code, filled, through_zero, edited},
 };
@@ -25,6 +42,9 @@ const FROM_4: [usize; 16] = [4, 5, 6, 7, 8, 9, 10, 11, 12, 13, 14, 15, 16, 17, 1
 
 /// The lanes from the ninth on, then eight of another vector.
 const FROM_8: [usize; 16] = [8, 9, 10, 11, 12, 13, 14, 15, 16, 17, 18, 19, 20, 21, 22, 23];
+
+/// The number of lanes to the right of each lane.
+const LANES_RIGHT: [u8; 16] = [15, 14, 13, 12, 11, 10, 9, 8, 7, 6, 5, 4, 3, 2, 1, 0];
 
 /// The lanes where the key is `value`, and those of others elsewhere.
 #[inline(always)]
@@ -76,18 +96,106 @@ fn places_right(control: u8x16) -> u8x16
     sixteens.shuffle(none, FROM_1)
 }
 
+/// Whether every lane is below `limit`.
+#[inline(always)]
+fn are_below(lanes: u8x16, limit: u8) -> bool
+    requires { length lanes ≡ 16 }
+    ensures { result ≡ true → All (λ lane. lane < limit) lanes }
+{
+    lanes.simd_ge(u8x16::splat(limit)).to_bitmask() == 0
+}
+
+/// The lanes that stay where they are: those where `far` is 0. Each other lane is 0.
+#[inline(always)]
+fn bring_1(amount: u8x16, far: u8x16) -> u8x16
+    requires sixteen { length amount ≡ 16 }
+    requires sixteen_far { length far ≡ 16 }
+    ensures { IsBrought 1 amount far result }
+{
+    where_equal(far, 0, amount, u8x16::splat(0))
+}
+
+/// For each lane the one that is `far` lanes to its right, if that is fewer than two.
+#[inline(always)]
+fn bring_2(amount: u8x16, far: u8x16) -> u8x16
+    requires sixteen { length amount ≡ 16 }
+    requires sixteen_far { length far ≡ 16 }
+    requires bytes { All (λ lane. lane < 256) far }
+    ensures { IsBrought 2 amount far result }
+{
+    let later = amount.shuffle(u8x16::splat(0), FROM_1);
+    bring_1(amount, far) | bring_1(later, far - u8x16::splat(1))
+}
+
+/// For each lane the one that is `far` lanes to its right, if that is fewer than four.
+#[inline(always)]
+fn bring_4(amount: u8x16, far: u8x16) -> u8x16
+    requires sixteen { length amount ≡ 16 }
+    requires sixteen_far { length far ≡ 16 }
+    requires bytes { All (λ lane. lane < 256) far }
+    ensures { IsBrought 4 amount far result }
+{
+    let later = amount.shuffle(u8x16::splat(0), FROM_2);
+    bring_2(amount, far) | bring_2(later, far - u8x16::splat(2))
+}
+
+/// For each lane the one that is `far` lanes to its right, if that is fewer than eight.
+#[inline(always)]
+fn bring_8(amount: u8x16, far: u8x16) -> u8x16
+    requires sixteen { length amount ≡ 16 }
+    requires sixteen_far { length far ≡ 16 }
+    requires bytes { All (λ lane. lane < 256) far }
+    ensures { IsBrought 8 amount far result }
+{
+    let later = amount.shuffle(u8x16::splat(0), FROM_4);
+    bring_4(amount, far) | bring_4(later, far - u8x16::splat(4))
+}
+
+/// For each lane the one that is `far` lanes to its right. It is out of line, since most control
+/// fields have few characters that are no digit places.
+#[inline(never)]
+fn bring_16(amount: u8x16, far: u8x16) -> u8x16
+    requires sixteen { length amount ≡ 16 }
+    requires sixteen_far { length far ≡ 16 }
+    requires bytes { All (λ lane. lane < 256) far }
+    ensures { IsBrought 16 amount far result }
+{
+    let later = amount.shuffle(u8x16::splat(0), FROM_8);
+    bring_8(amount, far) | bring_8(later, far - u8x16::splat(8))
+}
+
+/// For each lane the one that is `far` lanes to its right, in as few steps as do.
+#[inline(always)]
+fn bring(amount: u8x16, far: u8x16) -> u8x16
+    requires sixteen { length amount ≡ 16 }
+    requires sixteen_far { length far ≡ 16 }
+    requires below { All (λ lane. lane < 16) far }
+    ensures { IsBrought 16 amount far result }
+{
+    if are_below(far, 4) {
+        return bring_4(amount, far);
+    }
+    if are_below(far, 8) {
+        return bring_8(amount, far);
+    }
+    bring_16(amount, far)
+}
+
 /// The data character that has as many others to its right as each lane of `places` says, or blank
-/// to the left of the last `count`.
+/// to the left of the last `count`. No lane has more digit places than lanes to its right.
 #[inline(always)]
 fn bring_data(amount: u8x16, count: u16, places: u8x16) -> u8x16
     requires most { count ≤ 16 }
     requires sixteen { length amount ≡ 16 }
     requires sixteen_places { length places ≡ 16 }
     requires places { All (λ place. place < 16) places }
+    requires right { (lane : ℕ) → lane < 16 → slice_index places lane + lane < 16 }
     ensures { result ≡ map (from_right (drop (16 - count) amount)) places }
 {
-    let brought = amount.swizzle_dyn(u8x16::splat(15) - places);
-    where_from(places, count as u8, u8x16::splat(0), brought)
+    let none = u8x16::splat(0);
+    let far = u8x16::from_array(LANES_RIGHT) - places;
+    let brought = bring(amount, where_from(places, count as u8, none, far));
+    where_from(places, count as u8, none, brought)
 }
 
 /// The number of digit places to the right of a sign that becomes blank: none, or, for a minus

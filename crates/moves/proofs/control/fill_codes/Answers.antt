@@ -1,4 +1,4 @@
-use Rattle.moves.proofs.ControlPlaces.{right_small, right_long}
+use Rattle.moves.proofs.ControlPlaces.{right_small, right_long, right_within}
 use Rattle.moves.proofs.ControlLanes.{all_filled, filled_sixteen, filled_small}
 use Rattle.moves.proofs.control.fill_codes.Goals as goal
 
@@ -7,6 +7,9 @@ bring_data-digits-requires-clause-sixteen_places c = right_long c.args.control c
 
 pub bring_data-digits-requires-clause-places : goal.bring_data-digits-requires-clause-places
 bring_data-digits-requires-clause-places c = right_small c.args.control c.places_right-right.result c.requires.sixteen c.places_right-right.ensures
+
+pub bring_data-digits-requires-clause-right : goal.bring_data-digits-requires-clause-right
+bring_data-digits-requires-clause-right c = right_within c.args.control c.places_right-right.result c.requires.sixteen c.places_right-right.ensures
 
 pub keep_codes-kept-requires-clause-sixteen_right : goal.keep_codes-kept-requires-clause-sixteen_right
 keep_codes-kept-requires-clause-sixteen_right c = right_long c.args.control c.places_right-right.result c.requires.sixteen c.places_right-right.ensures
