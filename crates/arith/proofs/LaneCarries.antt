@@ -1,11 +1,12 @@
 -- carries between the columns of a number
 use Rattle.std.proofs.Common.{◌≡◌, ◌++◌, ℕ, zero, suc, ◌+◌, ◌-◌, ◌*◌, ◌%◌, ◌^◌, ◌<◌, ◌≤◌, ◌||◌, All, Bool, true, false, cond, ltb, if◌then◌else◌, List, [], ◌∷◌, refl, sym, ◌∙◌, ap, arith, length, take, drop, map, replicate, get_or}
-use Rattle.std.specs.List.{list_any}
-use Rattle.std.specs.Simd.Lanes.{sel_l, sum_l, zip2}
+use Rattle.std.specs.List.{list_any, range_with_len}
+use Rattle.std.specs.Simd.Lanes.{pick_l, sel_l, sum_l, zip2}
 use Rattle.std.proofs.Math.Decide.{dec_lt}
 use Rattle.std.proofs.Math.Nat.{pow-suc}
 use Rattle.std.proofs.lemmas.Bool.{lt-ltb, le-ltb, ltb-true}
-use Rattle.std.proofs.lemmas.List.{take_at}
+use Rattle.std.proofs.lemmas.List.{length-append, length-replicate}
+use Rattle.std.proofs.lemmas.Simd.{pick_l-range_with_len}
 use Rattle.std.proofs.lemmas.List.Elements.{All-nil, All-cons, All-head, All-tail}
 use Rattle.arith.specs.Columns.{number}
 
@@ -22,26 +23,39 @@ carries_are [] n e = refl
 carries_are (x ∷ xs) zero e = absurd (omega arith)
 carries_are (x ∷ xs) (suc n) e = ap (λ l. carry x ∷ l) (carries_are xs n (omega arith))
 
-one_unit : (x : ℕ) → x ≤ 18 → cond (ltb 9 x) ((x + (256 - 10)) % 256) x ≡ unit x
+-- a digit and 10 less in base 256, of which the smaller is without its carry
+one_unit : (x : ℕ) → x ≤ 18 → cond (ltb x ((x + (256 - 10)) % 256)) x ((x + (256 - 10)) % 256) ≡ unit x
 one_unit x le =
     elim (dec_lt 9 x) [
       | yes lt ↦
           let less : (x + (256 - 10)) % 256 ≡ x - 10 = omega arith in
-          ap (λ b. cond b ((x + (256 - 10)) % 256) x) (lt-ltb 9 x lt) ∙ less ∙ sym (ap (λ b. cond b (x - 10) x) (lt-ltb 9 x lt))
-      | no ge ↦ ap (λ b. cond b ((x + (256 - 10)) % 256) x) (le-ltb 9 x (omega arith)) ∙ sym (ap (λ b. cond b (x - 10) x) (le-ltb 9 x (omega arith)))
+          ap (λ y. cond (ltb x y) x y) less ∙ ap (λ b. cond b x (x - 10)) (le-ltb x (x - 10) (omega arith)) ∙ sym (ap (λ b. cond b (x - 10) x) (lt-ltb 9 x lt))
+      | no ge ↦
+          let more : x < (x + (256 - 10)) % 256 = omega arith in
+          ap (λ b. cond b x ((x + (256 - 10)) % 256)) (lt-ltb x ((x + (256 - 10)) % 256) more) ∙ sym (ap (λ b. cond b (x - 10) x) (le-ltb 9 x (omega arith)))
     ]
 
 pub units_are : (xs : List ℕ) (n : ℕ) → length xs ≡ n → All (λ x. x ≤ 18) xs →
-    sel_l (map (λ x. ltb 9 x) xs) (zip2 (λ x y. (x + (256 - y)) % 256) xs (replicate n 10)) xs ≡ map unit xs
+    let less = zip2 (λ x y. (x + (256 - y)) % 256) xs (replicate n 10) in sel_l (zip2 ltb xs less) xs less ≡ map unit xs
 units_are [] n e all = refl
 units_are (x ∷ xs) zero e all = absurd (omega arith)
 units_are (x ∷ xs) (suc n) e all =
-    ap (λ y. y ∷ sel_l (map (λ z. ltb 9 z) xs) (zip2 (λ a b. (a + (256 - b)) % 256) xs (replicate n 10)) xs) (one_unit x (All-head (λ y. y ≤ 18) x xs all))
+    let less = zip2 (λ x y. (x + (256 - y)) % 256) xs (replicate n 10) in
+    ap (λ y. y ∷ sel_l (zip2 ltb xs less) xs less) (one_unit x (All-head (λ y. y ≤ 18) x xs all))
     ∙ ap (λ l. unit x ∷ l) (units_are xs n (omega arith) (All-tail (λ y. y ≤ 18) x xs all))
 
-pub turned_left : (xs : List ℕ) → length xs ≡ 16 → get_or xs 0 0 ≡ 0 → take 15 (drop 1 (xs ++ xs)) ++ get_or (xs ++ xs) 0 0 ∷ [] ≡ drop 1 xs ++ 0 ∷ []
-turned_left [] e first = absurd (omega arith)
-turned_left (x ∷ xs) e first = ap (λ l. l ++ x ∷ []) (take_at xs (x ∷ xs) 15 (omega arith)) ∙ ap (λ y. xs ++ y ∷ []) first
+take_one_past : (xs ys : List ℕ) (n : ℕ) → length xs ≡ n → take (suc n) (xs ++ 0 ∷ ys) ≡ xs ++ 0 ∷ []
+take_one_past [] ys zero e = refl
+take_one_past [] ys (suc n) e = absurd (omega arith)
+take_one_past (x ∷ xs) ys zero e = absurd (omega arith)
+take_one_past (x ∷ xs) ys (suc n) e = ap (λ l. x ∷ l) (take_one_past xs ys n (omega arith))
+
+-- the lanes from the second on, and then the first of lanes of 0
+pub moved_left : (xs : List ℕ) → length xs ≡ 16 → pick_l 0 (xs ++ replicate 16 0) (range_with_len 1 16) ≡ drop 1 xs ++ 0 ∷ []
+moved_left [] e = absurd (omega arith)
+moved_left (x ∷ xs) e =
+    let room : 1 + 16 ≤ length ((x ∷ xs) ++ replicate 16 0) = omega (arith, length-append (x ∷ xs) (replicate 16 0), length-replicate {A = ℕ} 16 0, e) in
+    pick_l-range_with_len 0 ((x ∷ xs) ++ replicate 16 0) 1 16 room ∙ take_one_past xs (replicate 15 0) 15 (omega arith)
 
 -- ---- one step of the carries
 
@@ -130,7 +144,7 @@ first_small x P n h =
       spread : (y P : ℕ) → (y + 10) * P ≡ y * P + 10 * P
       spread y P = omega arith
 
-pub no_carry_out : (xs : List ℕ) → length xs ≡ 16 → number xs < 10 ^ 16 → carry (get_or xs 0 0) ≡ 0
+no_carry_out : (xs : List ℕ) → length xs ≡ 16 → number xs < 10 ^ 16 → carry (get_or xs 0 0) ≡ 0
 unfolding number
 no_carry_out [] e h = absurd (omega arith)
 no_carry_out (x ∷ xs) e h =
@@ -139,10 +153,6 @@ no_carry_out (x ∷ xs) e h =
     let bound : x * 10 ^ 15 + number xs < 10 * 10 ^ 15 = rw power at h in
     let small : x < 10 = first_small x (10 ^ 15) (number xs) bound in
     ap (λ b. cond b 1 0) (le-ltb 9 x (omega arith))
-
-pub first_carry : (xs : List ℕ) → length xs ≡ 16 → get_or (map carry xs) 0 0 ≡ carry (get_or xs 0 0)
-first_carry [] e = absurd (omega arith)
-first_carry (x ∷ xs) e = refl
 
 head_is : (xs : List ℕ) → length xs ≡ 16 → head_carry xs ≡ carry (get_or xs 0 0)
 unfolding head_carry

@@ -11,6 +11,9 @@ ghost use Rattle.arith.specs.Columns.{characters, digit_of_part, number, sign_bi
 use core_store::{last_of, replace_lanes};
 use std::simd::prelude::*;
 
+/// The lanes from the second on, then the first lane of another vector.
+const FROM_1: [usize; 16] = [1, 2, 3, 4, 5, 6, 7, 8, 9, 10, 11, 12, 13, 14, 15, 16];
+
 /// Some bits of each lane.
 #[inline(always)]
 fn mask(lanes: u8x16, bits: u8) -> u8x16
@@ -124,18 +127,16 @@ fn units(sums: u8x16) -> u8x16
     requires most { All (λ sum. sum ≤ 18) sums }
     ensures { result ≡ map (λ sum. if nat_lt 9 sum then sum - 10 else sum) sums }
 {
-    sums.simd_gt(u8x16::splat(9))
-        .select(sums - u8x16::splat(10), sums)
+    sums.simd_min(sums - u8x16::splat(10))
 }
 
 /// Each lane at the place before its own, and 0 at the last place.
 #[inline(always)]
 fn one_left(lanes: u8x16) -> u8x16
-    requires sixteen { length lanes ≡ 16 }
-    requires first { slice_index lanes 0 ≡ 0 }
+    requires { length lanes ≡ 16 }
     ensures { result ≡ drop 1 lanes ++ 0 ∷ [] }
 {
-    lanes.rotate_elements_left::<1>()
+    lanes.shuffle(u8x16::splat(0), FROM_1)
 }
 
 /// The digits of the same number after each carry has gone to the digit before its own.

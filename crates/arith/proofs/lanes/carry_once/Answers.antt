@@ -1,13 +1,9 @@
-use Rattle.std.proofs.Common.{◌++◌, [], ◌∷◌, ◌+◌, ◌<◌, ◌≤◌, ◌∙◌, ap, arith, drop, map, get_or, length}
+use Rattle.std.proofs.Common.{◌++◌, [], ◌∷◌, ◌+◌, ◌<◌, ◌≤◌, ◌∙◌, ap, arith, drop, map, length}
 use Rattle.std.specs.Simd.Lanes.{sum_l, zip2}
 use Rattle.std.proofs.lemmas.List.Elements.{All-same}
 use Rattle.arith.specs.Columns.{number}
-use Rattle.arith.proofs.LaneCarries.{unit, units_small, left_small, first_carry, no_carry_out, step_number, step_long, step_most, step_fewer}
+use Rattle.arith.proofs.LaneCarries.{unit, units_small, left_small, step_number, step_long, step_most, step_fewer}
 use Rattle.arith.proofs.lanes.carry_once.Goals as goal
-
-pub one_left-requires-clause-first : goal.one_left-requires-clause-first
-one_left-requires-clause-first c =
-    ap (λ xs. get_or xs 0 0) c.carries.ensures ∙ first_carry c.args.sums c.requires.sixteen ∙ no_carry_out c.args.sums c.requires.sixteen c.requires.room
 
 pub totals-requires-clause-a : goal.totals-requires-clause-a
 totals-requires-clause-a c = All-same (λ x. x < 128) _ _ c.units.ensures (units_small c.args.sums c.requires.most)
