@@ -6,9 +6,11 @@ use Rattle.cards.specs.Files.{punch_file_of, text_of}
 use Rattle.cards.specs.declared.Card.{Card}
 use Rattle.cards.specs.declared.CardFault.{CardFault}
 use Rattle.card_forms.proofs.BinaryColumns.{deck_told}
+use Rattle.card_forms.proofs.PunchDigits.{file_stays}
 use Rattle.card_forms.proofs.SimhLines.{text_read}
 use Rattle.card_forms.specs.Faults.{IsFirstFault, IsPunchFault, IsTextFault}
 use Rattle.card_forms.specs.ColumnBinary.{punch_file_for}
+use Rattle.card_forms.specs.PunchFiles.{in_capitals}
 use Rattle.card_forms.specs.SimhTexts.{deck_text_of}
 use Rattle.card_forms.specs.Forms as forms
 use Rattle.card_forms.specs.Forms.{IsFileOf}
@@ -19,7 +21,7 @@ use Rattle.card_forms.specs.declared.forms.Form.TheVariants.{Text, Punch, Simh, 
 -- what is written is a file of the deck
 pub is_written : (form : Form) (deck : List Card) → IsDeck deck → IsFileOf form (forms.file_of form deck) deck
 is_written Text deck is_deck = refl
-is_written Punch deck is_deck = refl
+is_written Punch deck is_deck = file_stays deck
 is_written Simh deck is_deck = text_read deck is_deck
 is_written Binary deck is_deck = refl
 
@@ -36,7 +38,7 @@ punch_no_deck file told deck fault is_deck same =
 pub no_file : (form : Form) (bytes : List ℕ) (deck : List Card) (fault : FormFault) → IsFirstFault form bytes fault
     → IsDeck deck → IsFileOf form bytes deck → ⊥
 no_file Text bytes deck fault first is_deck same = text_no_deck bytes first.0 deck first.1 is_deck same
-no_file Punch bytes deck fault first is_deck same = punch_no_deck bytes first.0 deck first.1 is_deck same
+no_file Punch bytes deck fault first is_deck same = punch_no_deck (in_capitals bytes) first.0 deck first.1 is_deck same
 no_file Simh bytes deck fault first is_deck same = text_no_deck (deck_text_of bytes) first.0 deck first.1 is_deck same
 no_file Binary bytes deck fault first is_deck same =
     punch_no_deck (punch_file_for bytes) first.0 deck first.1 is_deck (ap punch_file_for same ∙ deck_told deck is_deck.1)

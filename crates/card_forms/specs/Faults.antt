@@ -13,6 +13,7 @@ use Rattle.card_forms.specs.declared.faults.FormError.TheVariants.{NoMemory, Len
 use Rattle.card_forms.specs.declared.faults.FormFault.{FormFault}
 use Rattle.card_forms.specs.SimhTexts.{deck_text_of}
 use Rattle.card_forms.specs.ColumnBinary.{punch_file_for}
+use Rattle.card_forms.specs.PunchFiles.{in_capitals}
 
 -- the fault that memory ran out, with no card and no column
 abbrev pub out_of_memory : FormFault
@@ -75,14 +76,14 @@ IsPunchFault file told =
 -- the fault of a file as that of the deck text or the punch file for which it stands
 abbrev pub IsTold : Form → List ℕ → CardFault → Type 0
 IsTold Text bytes told = IsTextFault bytes told
-IsTold Punch bytes told = IsPunchFault bytes told
+IsTold Punch bytes told = IsPunchFault (in_capitals bytes) told
 IsTold Simh bytes told = IsTextFault (deck_text_of bytes) told
 IsTold Binary bytes told = IsPunchFault (punch_file_for bytes) told
 
 -- what is wrong with the column at the place of a fault
 abbrev pub wrong_at : Form → List ℕ → CardFault → FormError
 wrong_at Text bytes told = glyph_error bytes told
-wrong_at Punch bytes told = punches_error bytes told
+wrong_at Punch bytes told = punches_error (in_capitals bytes) told
 wrong_at Simh bytes told = glyph_error (deck_text_of bytes) told
 wrong_at Binary bytes told = column_error bytes told
 

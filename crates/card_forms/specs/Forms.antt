@@ -6,6 +6,7 @@ use Rattle.card_forms.specs.declared.forms.Form.{Form}
 use Rattle.card_forms.specs.declared.forms.Form.TheVariants.{Text, Punch, Simh, Binary}
 use Rattle.card_forms.specs.SimhTexts.{simh_text_of, deck_text_of}
 use Rattle.card_forms.specs.ColumnBinary.{binary_of}
+use Rattle.card_forms.specs.PunchFiles.{in_capitals}
 
 -- the name of a form
 abbrev pub word_of : Form → List ℕ
@@ -22,10 +23,10 @@ file_of Simh deck = simh_text_of deck
 file_of Binary deck = binary_of deck
 
 -- the bytes are a file of a deck in a form: in SimH's one any text that stands for the deck's text,
--- in the others the one file that is written
+-- a punch file may have small digits, and in the others it is the one file that is written
 abbrev pub IsFileOf : Form → List ℕ → List Card → Type 0
 IsFileOf Text bytes deck = bytes ≡ text_of deck
-IsFileOf Punch bytes deck = bytes ≡ punch_file_of deck
+IsFileOf Punch bytes deck = in_capitals bytes ≡ punch_file_of deck
 IsFileOf Simh bytes deck = deck_text_of bytes ≡ text_of deck
 IsFileOf Binary bytes deck = bytes ≡ binary_of deck
 

@@ -1,5 +1,6 @@
 pub mod ColumnBinary
 pub mod Faults
 pub mod Forms
+pub mod PunchFiles
 pub mod Signs
 pub mod SimhTexts

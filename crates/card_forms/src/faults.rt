@@ -17,8 +17,8 @@ pub enum FormError {
     /// The file or a line ends within a card, or a line is longer than a card.
     #[error("not 80 columns")]
     Length,
-    /// A byte that stands for nothing in the form: no glyph, no sign, no upper-case hexadecimal
-    /// digit, or in column binary a byte with one of its two high bits.
+    /// A byte that stands for nothing in the form: no glyph, no sign, no hexadecimal digit, or in
+    /// column binary a byte with one of its two high bits.
     #[error("no sign")]
     Sign(u8),
     /// Punches of no character, as the three hexadecimal digits of a punch file.
@@ -56,7 +56,7 @@ fn byte_at(bytes: &[u8], place: usize) -> u8
 }
 
 /// Whether a byte is an upper-case hexadecimal digit.
-fn is_digit(byte: u8) -> bool
+pub(crate) fn is_digit(byte: u8) -> bool
     ensures { result ≡ is_digit byte }
 {
     b"0123456789ABCDEF".contains(&byte)

@@ -7,11 +7,12 @@ ghost use Rattle.card_forms.specs.{Faults.{IsFault, IsRead}, Forms.{IsFileOf, fo
 use crate::column_binary::punch_file;
 use crate::faults::{FormFault, OUT_OF_MEMORY, binary_fault, punch_fault, text_fault};
 use crate::forms::Form;
+use crate::punch_files::in_capitals;
 use crate::simh_texts::{deck_text, feed_place};
 use cards::{Deck, read_punched, read_text};
 use std::alloc::Global;
 
-/// Reads a deck from a file in a form.
+/// Reads a deck from a file in a form. The digits A to F of a punch file may be small letters.
 ///
 /// The error is the first fault in reading order, or `OUT_OF_MEMORY`.
 pub fn read(alloc: Global, form: Form, bytes: &[u8]) -> Result<Deck, FormFault>
@@ -65,16 +66,19 @@ fn read_deck_text(alloc: Global, text: &[u8]) -> Result<Deck, FormFault>
     }
 }
 
-/// Reads a deck from its punch file.
+/// Reads a deck from its punch file, whose digits may be small letters.
 fn read_punch_file(alloc: Global, file: &[u8]) -> Result<Deck, FormFault>
     ensures deck { IfOk result (λ deck. IsDeck deck × IsFileOf Form.Punch file.now deck) }
     ensures only { (deck : List Card) → IsDeck deck → IsFileOf Form.Punch file.now deck →
         IsRead result deck }
     ensures fault { IfErr result (λ fault. IsFault Form.Punch file.now fault) }
 {
-    match read_punched(alloc, file) {
+    let Ok(told_file) = in_capitals(alloc, file) else {
+        return Err(OUT_OF_MEMORY);
+    };
+    match read_punched(alloc, &told_file) {
         Ok(deck) => Ok(deck),
-        Err(told) => Err(punch_fault(file, told)),
+        Err(told) => Err(punch_fault(&told_file, told)),
     }
 }
 

@@ -4,9 +4,10 @@ use Rattle.std.proofs.lemmas.Bool.{cases_Bool}
 use Rattle.std.proofs.lemmas.List.{length-take, length-replicate}
 use Rattle.card_texts.specs.declared.rules.Rules.{Rules}
 use Rattle.card_texts.specs.declared.faults.TextError.{TextError}
-use Rattle.card_texts.specs.declared.faults.TextError.TheVariants.{NoCode, SmallLetter, Tab, PastTheCard, EmptyLine, TooManyCards}
+use Rattle.card_texts.specs.declared.faults.TextError.TheVariants.{NoCode, SmallLetter, Tab, PastTheCard, PunchLine, EmptyLine, TooManyCards}
 use Rattle.card_texts.specs.declared.faults.TextFault.{TextFault}
 use Rattle.card_texts.specs.declared.finding.Met.{Met}
+use Rattle.card_forms.specs.PunchFiles.{is_punch_line}
 use Rattle.card_forms.specs.Signs.{is_small}
 use Rattle.card_texts.specs.Signs.{glyph_by, is_glyph}
 use Rattle.card_texts.specs.Columns.{blank, tab, behind, behind_tab, columns_from, columns_kept, columns_of, filled_up, is_spread, kept_of, spreads}
@@ -36,7 +37,8 @@ told_none number filled None none = refl
 told_none number filled (Some (NoCode bytes)) none = absurd (omega (arith, ap (λ faults. length faults) none))
 told_none number filled (Some SmallLetter) none = absurd (omega (arith, ap (λ faults. length faults) none))
 told_none number filled (Some Tab) none = absurd (omega (arith, ap (λ faults. length faults) none))
-told_none number filled (Some PastTheCard) none = absurd (omega (arith, ap (λ faults. length faults) none))
+told_none number filled (Some (PastTheCard width)) none = absurd (omega (arith, ap (λ faults. length faults) none))
+told_none number filled (Some PunchLine) none = absurd (omega (arith, ap (λ faults. length faults) none))
 told_none number filled (Some EmptyLine) none = absurd (omega (arith, ap (λ faults. length faults) none))
 told_none number filled (Some TooManyCards) none = absurd (omega (arith, ap (λ faults. length faults) none))
 
@@ -145,13 +147,26 @@ kept_first (Some last) columns all =
     let same : min 80 last - 0 ≡ min 80 last = omega arith in
     rw (take_twice 80 last columns) (subst (λ n. are_glyphs (take n columns) ≡ true) same all)
 
+-- of two lists the first is not empty
+second_none : (test : Bool) (fault : TextFault) (others : List TextFault)
+    → (if test then fault ∷ [] else others) ≡ [] → others ≡ []
+second_none true fault others none = absurd (omega (arith, ap (λ faults. length faults) none))
+second_none false fault others none = none
+
+-- the characters of a line without faults have none
+characters_faultless : (rules : Rules) (number : ℕ) (line : List ℕ) → faults_within rules number line ≡ []
+    → faults_from rules number 0 nothing_met line ≡ []
+characters_faultless rules number line none =
+    second_none (is_punch_line line) (record { line = number; column = 1; error = PunchLine })
+    (faults_from rules number 0 nothing_met line) none
+
 -- the card of a line without faults has glyphs
 pub filled_glyphs : (rules : Rules) (number : ℕ) (line : List ℕ) → faults_within rules number line ≡ []
     → are_glyphs (filled_up rules line) ≡ true
 filled_glyphs rules number line none =
     rw (take_joined 80 (columns_kept rules line) (replicate 80 blank))
     (joined_are_glyphs (take 80 (columns_kept rules line)) _
-    (kept_first rules.keeps (columns_from rules 0 line) (glyphs_from rules number 0 line none))
+    (kept_first rules.keeps (columns_from rules 0 line) (glyphs_from rules number 0 line (characters_faultless rules number line none)))
     (first_are_glyphs (80 - length (columns_kept rules line)) (replicate 80 blank) (blanks_are_glyphs 80)))
 
 -- and 80 of them

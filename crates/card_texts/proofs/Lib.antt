@@ -2,6 +2,7 @@ mod LineLemmas
 mod ColumnLemmas
 mod SignLemmas
 mod FaultLemmas
+mod WidthLemmas
 mod PunchingLemmas
 mod GlyphLemmas
 mod FaultlessColumns

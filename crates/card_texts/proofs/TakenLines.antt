@@ -3,13 +3,14 @@ use Rattle.std.proofs.Common.{rules, arith, refl, sym, ap, subst, ◌∙◌, ◌
 use Rattle.std.specs.List.{list_all}
 use Rattle.std.proofs.lemmas.Bool.{cases_Bool}
 use Rattle.std.proofs.lemmas.List.{length-take, length-append, length-replicate, take-append-le}
+use Rattle.card_forms.specs.PunchFiles.{is_punch_line}
 use Rattle.card_texts.specs.declared.rules.Rules.{Rules}
 use Rattle.card_texts.specs.declared.rules.Signs.TheVariants.{Bureau}
 use Rattle.card_texts.specs.declared.rules.EmptyLine as line
-use Rattle.card_texts.specs.declared.faults.TextError.TheVariants.{EmptyLine}
+use Rattle.card_texts.specs.declared.faults.TextError.TheVariants.{EmptyLine, PunchLine}
 use Rattle.card_texts.specs.declared.faults.TextFault.{TextFault}
 use Rattle.card_texts.specs.Columns.{blank, columns_from, filled_up, kept_of}
-use Rattle.card_texts.specs.Faults.{faults_within}
+use Rattle.card_texts.specs.Faults.{faults_from, faults_within, nothing_met}
 use Rattle.card_texts.specs.DeckTexts.{in_glyphs}
 use Rattle.card_texts.specs.Punching.{cards_of_lines, drops, empty_fault, faults_of_lines, is_empty, is_passed_over, line_faults, refuses}
 use Rattle.card_texts.proofs.ColumnLemmas.{filled_to_80}
@@ -39,10 +40,16 @@ settled_cards rules (line ∷ lines) all = (all.0.card, settled_cards rules line
 
 -- ---- lines that are settled
 
+-- a line of 80 columns is none of a punch file
+no_punch_line : (line : List ℕ) → length line ≡ 80 → is_punch_line line ≡ false
+no_punch_line line columns = rw columns refl
+
 no_faults : (rules : Rules) (number : ℕ) (line : List ℕ) → rules.signs ≡ Bureau → IsSettled rules line
     → faults_within rules number line ≡ []
 no_faults rules number line signs is =
-    glyphs_faultless rules number 0 line signs is.card.glyphs (omega (arith, is.card.columns))
+    ap (λ test. if test then record { line = number; column = 1; error = PunchLine } ∷ [] else faults_from rules number 0 nothing_met line)
+    (no_punch_line line is.card.columns)
+    ∙ glyphs_faultless rules number 0 line signs is.card.glyphs (omega (arith, is.card.columns))
 
 nothing_in : (rules : Rules) (number : ℕ) (line : List ℕ) → rules.signs ≡ Bureau → IsSettled rules line
     → is_empty rules number line ≡ is_blank line

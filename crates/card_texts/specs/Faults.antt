@@ -1,10 +1,12 @@
 -- what is wrong with the lines of a text
 use Rattle.std.specs.Prelude.{ℕ, ◌+◌, ◌==◌, nat_lt, nat_le, Bool, true, false, ◌&&◌, ◌||◌, if◌then◌else◌, List, [], ◌∷◌, ◌++◌, slice_index_or, Option, Some, None}
+use Rattle.std.specs.List.{list_all}
 use Rattle.card_texts.specs.declared.rules.Rules.{Rules}
 use Rattle.card_texts.specs.declared.faults.TextError.{TextError}
-use Rattle.card_texts.specs.declared.faults.TextError.TheVariants.{NoCode, SmallLetter, Tab, PastTheCard}
+use Rattle.card_texts.specs.declared.faults.TextError.TheVariants.{NoCode, SmallLetter, Tab, PastTheCard, PunchLine}
 use Rattle.card_texts.specs.declared.faults.TextFault.{TextFault}
 use Rattle.card_texts.specs.declared.finding.Met.{Met}
+use Rattle.card_forms.specs.PunchFiles.{is_punch_line}
 use Rattle.card_forms.specs.Signs.{is_small}
 use Rattle.card_texts.specs.Signs.{glyph_by, is_glyph}
 use Rattle.card_texts.specs.Columns.{blank, tab, behind, is_spread}
@@ -61,8 +63,30 @@ is_inside met byte = met.inside && goes_on byte
 abbrev pub is_bare : Rules → ℕ → Bool
 is_bare rules byte = is_spread rules byte || byte == blank
 
+-- whether each of these bytes leaves its columns blank
+abbrev pub are_bare : Rules → List ℕ → Bool
+are_bare rules bytes = list_all (λ byte. is_bare rules byte) bytes
+
+-- bytes up to the last one that does not leave its columns blank
+unfoldable pub without_bare : Rules → List ℕ → List ℕ
+without_bare rules [] = []
+without_bare rules (byte ∷ rest) =
+    if are_bare rules (byte ∷ rest) then [] else byte ∷ without_bare rules rest
+
+-- how many columns are filled behind bytes, after so many: a character of several bytes fills one
+unfoldable pub columns_behind : Rules → ℕ → Bool → List ℕ → ℕ
+columns_behind rules filled inside [] = filled
+columns_behind rules filled inside (byte ∷ rest) =
+    if inside && goes_on byte then columns_behind rules filled inside rest
+    else columns_behind rules (behind rules filled byte) (nat_le 192 byte) rest
+
+-- how many columns a line has without the blanks at its end, where these bytes stand behind so many
+abbrev pub width_behind : Rules → ℕ → List ℕ → ℕ
+width_behind rules filled bytes = columns_behind rules filled false (without_bare rules bytes)
+
 -- the faults of a line's bytes after so many columns, in order: columns that are not looked at have
--- none, and behind the card there is one, at the first character that is not blank
+-- none, and behind the card there is one, at the first character that is not blank, with the width
+-- of the line
 unfoldable pub faults_from : Rules → ℕ → ℕ → Met → List ℕ → List TextFault
 faults_from rules number filled met [] = []
 faults_from rules number filled met (byte ∷ rest) =
@@ -74,8 +98,14 @@ faults_from rules number filled met (byte ∷ rest) =
     (met_behind met (error_within rules byte rest) byte) rest
     else (if is_bare rules byte
     then faults_from rules number (behind rules filled byte) met rest
-    else record { line = number; column = filled + 1; error = PastTheCard } ∷ [])))
+    else record {
+      line = number;
+      column = filled + 1;
+      error = PastTheCard (width_behind rules filled (byte ∷ rest));
+    } ∷ [])))
 
--- the faults of the characters of a line
+-- the faults of a line: that it is one of a punch file, or else those of its characters
 abbrev pub faults_within : Rules → ℕ → List ℕ → List TextFault
-faults_within rules number line = faults_from rules number 0 nothing_met line
+faults_within rules number line =
+    if is_punch_line line then record { line = number; column = 1; error = PunchLine } ∷ []
+    else faults_from rules number 0 nothing_met line

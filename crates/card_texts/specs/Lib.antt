@@ -5,3 +5,4 @@ pub mod Faults
 pub mod Punching
 pub mod DeckTexts
 pub mod Changes
+pub mod Remedies

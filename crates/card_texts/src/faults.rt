@@ -9,8 +9,10 @@ pub enum TextError {
     SmallLetter,
     /// A tab, where there are no columns at which it goes on.
     Tab,
-    /// A character past column 80.
-    PastTheCard,
+    /// A character past column 80: how many columns the line has, without the blanks at its end.
+    PastTheCard(usize),
+    /// The line of a card in a punch file: 240 hexadecimal digits.
+    PunchLine,
     /// No character but blanks, where that is a fault.
     EmptyLine,
     /// A card more than the 2,000 of a deck.

@@ -1,15 +1,17 @@
 //! What is wrong with a line.
 
-ghost use Rattle.std.specs.Prelude.{◌≡◌, ◌<◌, ◌∷◌, ◌++◌, slice_index_or, OnOk};
+ghost use Rattle.std.specs.Prelude.{◌≡◌, ◌<◌, ◌≤◌, ◌+◌, ◌∷◌, ◌++◌, [], false, length, slice_index_or, OnOk};
 ghost use Rattle.card_texts.specs.{
   Signs.{is_glyph},
-  Faults.{faults_within, four_bytes, error_within, is_inside, is_past, is_told, met_behind, nothing_met, goes_on, told_of},
+  Faults.{columns_behind, error_within, faults_from, faults_within, four_bytes, goes_on, is_inside, is_past, is_told, met_behind, nothing_met, told_of, width_behind, without_bare},
+  declared.faults.TextError.TheVariants.{PastTheCard},
 };
 
 use crate::columns::COLUMNS;
 use crate::faults::{TextError, TextFault};
 use crate::rules::Rules;
 use bcd::Code;
+use card_forms::is_punch_line;
 use std::alloc::AllocError;
 
 /// What was met in a line: a tab and a small letter are told once.
@@ -31,7 +33,7 @@ fn goes_on(byte: u8) -> bool
 }
 
 /// Whether a byte is the glyph of a character.
-fn is_glyph(byte: u8) -> bool
+pub(crate) fn is_glyph(byte: u8) -> bool
     ensures { result ≡ is_glyph byte }
 {
     match Code::from_glyph(byte) {
@@ -156,8 +158,75 @@ fn tell(
     Ok(())
 }
 
-/// Adds the faults of the characters of a line.
-#[tactic(auto, unfolding(crate::specs::Faults::faults_from))]
+/// Bytes up to the last one that does not leave its columns blank.
+#[tactic(auto, using(crate::proofs::WidthLemmas::bare_cut, crate::proofs::WidthLemmas::none_bare), unfolding(crate::specs::Faults::without_bare))]
+fn without_bare<'a>(rules: &Rules, bytes: &'a [u8]) -> &'a [u8]
+    ensures bytes { result.now ≡ without_bare rules.now bytes.now }
+    ensures length { length result.now ≤ length bytes.now }
+{
+    let mut rest = bytes;
+    while let Some((&byte, before)) = rest.split_last() {
+        if !rules.is_bare(byte) {
+            break;
+        }
+        rest = before;
+    }
+    rest
+}
+
+/// How many columns are filled behind bytes, after so many.
+#[tactic(auto, unfolding(crate::specs::Faults::columns_behind))]
+fn columns_behind(rules: &Rules, before: usize, bytes: &[u8]) -> usize
+    requires { before + length bytes.now + 255 < usize.MAX }
+    ensures { result ≡ columns_behind rules.now before false bytes.now }
+{
+    let mut filled = before;
+    let mut inside = false;
+    let mut rest = bytes;
+    while let Some((&byte, behind)) = rest.split_first() {
+        rest = behind;
+        if inside && goes_on(byte) {
+            continue;
+        }
+        filled = rules.behind(filled, byte);
+        inside = byte >= 192;
+    }
+    filled
+}
+
+/// How many columns a line has, where these bytes stand behind so many.
+fn width_behind(rules: &Rules, filled: usize, bytes: &[u8]) -> usize
+    requires { filled + length bytes.now + 255 < usize.MAX }
+    ensures { result ≡ width_behind rules.now filled bytes.now }
+{
+    columns_behind(rules, filled, without_bare(rules, bytes))
+}
+
+/// Adds the fault that a character stands past the card, behind so many columns of its line.
+fn push_past(
+    faults: &mut Vec<TextFault>,
+    rules: &Rules,
+    line: usize,
+    filled: usize,
+    bytes: &[u8],
+) -> Result<(), AllocError>
+    requires { filled + length bytes.now + 255 < usize.MAX }
+    ensures { OnOk result (faults.new.items ≡ faults.old.items ++ record {
+      line = line;
+      column = filled + 1;
+      error = PastTheCard (width_behind rules.now filled bytes.now);
+    } ∷ []) }
+{
+    let width = width_behind(rules, filled, bytes);
+    faults.push(TextFault {
+        line,
+        column: filled + 1,
+        error: TextError::PastTheCard(width),
+    })?;
+    Ok(())
+}
+
+/// Adds the faults of a line.
 pub(crate) fn push_faults(
     faults: &mut Vec<TextFault>,
     rules: &Rules,
@@ -167,6 +236,28 @@ pub(crate) fn push_faults(
     ensures { OnOk result (faults.new.items
         ≡ faults.old.items ++ faults_within rules.now number line.now) }
 {
+    if is_punch_line(line) {
+        faults.push(TextFault {
+            line: number,
+            column: 1,
+            error: TextError::PunchLine,
+        })?;
+        return Ok(());
+    }
+    push_character_faults(faults, rules, number, line)
+}
+
+/// Adds the faults of the characters of a line.
+#[tactic(auto, unfolding(crate::specs::Faults::faults_from))]
+fn push_character_faults(
+    faults: &mut Vec<TextFault>,
+    rules: &Rules,
+    number: usize,
+    line: &[u8],
+) -> Result<(), AllocError>
+    ensures { OnOk result (faults.new.items
+        ≡ faults.old.items ++ faults_from rules.now number 0 nothing_met line.now) }
+{
     let mut filled = 0;
     let mut met = Met::nothing();
     let mut rest = line;
@@ -174,6 +265,7 @@ pub(crate) fn push_faults(
         if is_past(rules.keeps, filled) {
             return Ok(());
         }
+        let left = rest;
         rest = behind;
         if met.is_inside(byte) {
             continue;
@@ -186,14 +278,7 @@ pub(crate) fn push_faults(
         } else if rules.is_bare(byte) {
             filled = rules.behind(filled, byte);
         } else {
-            let column = filled + 1;
-            let error = TextError::PastTheCard;
-            faults.push(TextFault {
-                line: number,
-                column,
-                error,
-            })?;
-            return Ok(());
+            return push_past(faults, rules, number, filled, left);
         }
     }
     Ok(())

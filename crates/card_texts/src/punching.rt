@@ -227,7 +227,7 @@ fn take_lines(
 
 /// Takes a text as a deck by the rules, and returns the deck's text: 80 glyphs and a line feed a
 /// card. Else it returns the faults of the text, in the order of its lines; of each line a tab and
-/// a small letter are told once.
+/// a small letter are told once. A line of a punch file is a fault by any rules.
 pub fn punch(alloc: Global, rules: &Rules, text: &[u8]) -> Result<Vec<u8>, Unpunched>
     ensures faultless { OnOk result (faults_of rules.now text.now ≡ []) }
     ensures deck { IfOk result (λ deck. deck.items ≡ deck_text_of rules.now text.now) }

@@ -1,12 +1,12 @@
 -- the fields of a line of a manifest
-use Rattle.std.proofs.Common.{◌≡◌, ◌≢◌, ℕ, ◌<◌, ◌==◌, Bool, true, false, Some, None, List, [], ◌∷◌, ◌++◌, length, take, drop, get_or, position, refl, ap, sym, ◌∙◌, arith}
+use Rattle.std.proofs.Common.{◌≡◌, ◌≢◌, ℕ, ◌<◌, ◌==◌, Bool, true, false, Some, None, inl, inr, List, [], ◌∷◌, ◌++◌, length, take, drop, get_or, position, refl, ap, sym, ◌∙◌, arith}
 use Rattle.std.specs.List.{list_all, position_or_len}
 use Rattle.std.proofs.lemmas.Bool.{lt-ltb}
 use Rattle.std.proofs.lemmas.List.{drop_at, get_or_at, get_or_append_left, get_or-take, length-append, take-append-drop, length-take}
 use Rattle.std.proofs.lemmas.List.Elements.{All-head, All-tail, All-cons, All-nil}
 use Rattle.std.proofs.lemmas.List.Quantifiers.{position-Some}
 use Rattle.std.proofs.lemmas.List.Sums.{position_or_len_is}
-use Rattle.card_tools.specs.Manifests.{BeginsWithField, HasNoBlank, IsEntry, is_decimal, is_hexadecimal, may_be_digest, may_be_number}
+use Rattle.card_tools.specs.Manifests.{BeginsWithField, HasCount, HasNoBlank, HasNoCount, IsEntry, IsName, is_decimal, is_hexadecimal, may_be_digest, may_be_number}
 
 -- whether a byte is a blank
 abbrev is_blank : ℕ → Bool
@@ -93,45 +93,43 @@ number_plain cards may =
     no_blanks is_decimal cards decimal_apart all
 
 -- a line that begins with no field is none of a manifest
-pub no_field : (line digest cards name : List ℕ) → ((field rest : List ℕ) → BeginsWithField line field rest → ⊥)
-    → IsEntry line digest cards name → ⊥
-no_field line digest cards name none entry =
-    none digest (cards ++ 32 ∷ 32 ∷ name) (digest_plain digest entry.digest_is, entry.fields_are)
-
--- the first field of a line of a manifest is its digest
-digest_read : (line field rest digest cards name : List ℕ) → BeginsWithField line field rest → IsEntry line digest cards name
-    → IsSameField field digest rest (cards ++ 32 ∷ 32 ∷ name)
-digest_read line field rest digest cards name begins entry =
-    field_once field digest rest (cards ++ 32 ∷ 32 ∷ name) begins.0 (digest_plain digest entry.digest_is) (sym begins.1 ∙ entry.fields_are)
+pub no_field : (line digest name : List ℕ) → ((field rest : List ℕ) → BeginsWithField line field rest → ⊥)
+    → IsEntry line digest name → ⊥
+no_field line digest name none entry =
+    none digest entry.label (digest_plain digest entry.digest_is, entry.line_is)
 
 -- a line whose first field is no digest is none
-pub no_digest : (line field rest digest cards name : List ℕ) → BeginsWithField line field rest → may_be_digest field ≡ false
-    → IsEntry line digest cards name → ⊥
-no_digest line field rest digest cards name begins other entry =
-    let same = digest_read line field rest digest cards name begins entry in
+pub no_digest : (line field rest digest name : List ℕ) → BeginsWithField line field rest → may_be_digest field ≡ false
+    → IsEntry line digest name → ⊥
+no_digest line field rest digest name begins other entry =
+    let same = field_once field digest rest entry.label begins.0 (digest_plain digest entry.digest_is) (sym begins.1 ∙ entry.line_is) in
     let both : true ≡ false = sym entry.digest_is ∙ ap may_be_digest (sym same.field) ∙ other in
     absurd (cc)
 
--- a line without a second field is none
-pub no_second : (line field rest digest cards name : List ℕ) → BeginsWithField line field rest
-    → ((second behind : List ℕ) → BeginsWithField rest second behind → ⊥) → IsEntry line digest cards name → ⊥
-no_second line field rest digest cards name begins none entry =
-    let same = digest_read line field rest digest cards name begins entry in
-    none cards name (number_plain cards entry.cards_are, same.behind)
+-- what begins with no field has no number of cards
+pub no_second : (label : List ℕ) → ((field rest : List ℕ) → BeginsWithField label field rest → ⊥) → HasNoCount label
+no_second label none cards name has = none cards name (number_plain cards has.cards_are, has.fields_are)
 
--- a line whose second field is no number is none
-pub no_number : (line field rest second behind digest cards name : List ℕ) → BeginsWithField line field rest
-    → BeginsWithField rest second behind → may_be_number second ≡ false → IsEntry line digest cards name → ⊥
-no_number line field rest second behind digest cards name begins follows other entry =
-    let same = digest_read line field rest digest cards name begins entry in
-    let number = field_once second cards behind name follows.0 (number_plain cards entry.cards_are) (sym follows.1 ∙ same.behind) in
-    let both : true ≡ false = sym entry.cards_are ∙ ap may_be_number (sym number.field) ∙ other in
+-- what begins with a field that is no number has none
+pub no_number : (label field rest : List ℕ) → BeginsWithField label field rest → may_be_number field ≡ false → HasNoCount label
+no_number label field rest begins other cards name has =
+    let same = field_once field cards rest name begins.0 (number_plain cards has.cards_are) (sym begins.1 ∙ has.fields_are) in
+    let both : true ≡ false = sym has.cards_are ∙ ap may_be_number (sym same.field) ∙ other in
     absurd (cc)
 
--- a line has the fields of one entry
-pub one_entry : (line digest cards name other count label : List ℕ) → IsEntry line digest cards name → IsEntry line other count label
-    → (digest ≡ other) × (cards ≡ count) × (name ≡ label)
-one_entry line digest cards name other count label one two =
-    let same = digest_read line digest (cards ++ 32 ∷ 32 ∷ name) other count label (digest_plain digest one.digest_is, one.fields_are) two in
-    let number = field_once cards count name label (number_plain cards one.cards_are) (number_plain count two.cards_are) same.behind in
-    (same.field, number.field, number.behind)
+-- what stands behind a digest has one name
+name_once : (label name other : List ℕ) → IsName label name → IsName label other → name ≡ other
+name_once label name other (inl one) (inl two) =
+    (field_once one.0 two.0 name other (number_plain one.0 one.1.cards_are) (number_plain two.0 two.1.cards_are)
+    (sym one.1.fields_are ∙ two.1.fields_are)).behind
+name_once label name other (inl one) (inr two) = absurd (two.0 one.0 name one.1)
+name_once label name other (inr one) (inl two) = absurd (one.0 two.0 other two.1)
+name_once label name other (inr one) (inr two) = one.1 ∙ sym two.1
+
+-- a line has the digest and the name of one entry
+pub one_entry : (line digest name other label : List ℕ) → IsEntry line digest name → IsEntry line other label
+    → (digest ≡ other) × (name ≡ label)
+one_entry line digest name other label one two =
+    let same = field_once digest other one.label two.label (digest_plain digest one.digest_is) (digest_plain other two.digest_is)
+    (sym one.line_is ∙ two.line_is) in
+    (same.field, name_once two.label name label (rw (sym same.behind) one.name_is) two.name_is)

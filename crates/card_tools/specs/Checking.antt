@@ -1,6 +1,9 @@
--- the cards of a deck whose numbers do not rise
-use Rattle.std.specs.Prelude.{ℕ, ◌+◌, ◌*◌, ◌%◌, nat_le, Bool, false, if◌then◌else◌, List, [], ◌∷◌, ◌++◌, codes, decimal, fold, is_some, unwrap_or, Option, Some, None}
+-- the numbers in the columns 73 to 80 of a deck's cards: where they do not rise, and whether they
+-- do
+use Rattle.std.specs.Prelude.{ℕ, ◌+◌, ◌*◌, ◌%◌, ◌==◌, nat_le, Bool, false, ◌&&◌, ◌||◌, if◌then◌else◌, List, [], ◌∷◌, ◌++◌, codes, count_by, decimal, fold, length, is_some, unwrap_or, Option, Some, None}
+use Rattle.std.specs.List.{list_all}
 use Rattle.cards.specs.declared.Card.{Card}
+use Rattle.card_forms.specs.Signs.{are_blank}
 use Rattle.card_tools.specs.Lines.{glyphs_of}
 use Rattle.card_tools.specs.Numbering.{is_digit, number_columns}
 
@@ -44,3 +47,21 @@ told_from before place (card ∷ cards) = told_of before place (number_columns c
 -- what is told of a deck's cards; before the first one no number stands
 abbrev pub told : List Card → List ℕ
 told cards = told_from [] 1 cards
+
+-- whether a card has a number in its columns 73 to 80
+abbrev pub has_number : Card → Bool
+has_number card = is_some (number_of (number_columns card))
+
+-- whether a card has a number there, or is blank
+abbrev pub is_numbered_or_blank : Card → Bool
+is_numbered_or_blank card = has_number card || are_blank card.0
+
+-- whether two cards at least have a number there, and each of the others is blank
+abbrev pub are_numbered : List Card → Bool
+are_numbered cards = nat_le 2 (count_by (λ card. has_number card) cards)
+    && list_all (λ card. is_numbered_or_blank card) cards
+
+-- whether the numbers in the columns 73 to 80 of cards rise: the cards have numbers, and each is
+-- higher than the one before it
+abbrev pub numbers_rise : List Card → Bool
+numbers_rise cards = are_numbered cards && (length (told cards) == 0)

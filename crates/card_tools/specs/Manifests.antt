@@ -1,5 +1,5 @@
--- lines of a manifest: a deck's digest, its number of cards, and a name
-use Rattle.std.specs.Prelude.{ℕ, ◌≡◌, ◌≢◌, ◌==◌, Bool, true, ◌&&◌, ◌||◌, nat_le, nat_lt, List, [], ◌∷◌, ◌++◌, length, decimal}
+-- lines of a manifest: a deck's digest and a name, and between them the number of its cards, or not
+use Rattle.std.specs.Prelude.{ℕ, ◌≡◌, ◌≢◌, ◌⊎◌, ◌==◌, Bool, true, ◌&&◌, ◌||◌, nat_le, nat_lt, List, [], ◌∷◌, ◌++◌, length, decimal}
 use Rattle.std.specs.List.{All, list_all}
 use Rattle.cards.specs.declared.Card.{Card}
 use Rattle.cards.specs.Files.{text_of}
@@ -9,13 +9,22 @@ use Rattle.texts.specs.Digests as digests
 abbrev pub digest_of : List Card → List ℕ
 digest_of deck = digests.digest_of (text_of deck)
 
--- the line of fields with two blanks between them
-abbrev pub fields : List ℕ → List ℕ → List ℕ → List ℕ
-fields digest cards name = digest ++ 32 ∷ 32 ∷ (cards ++ 32 ∷ 32 ∷ name)
+-- the line of a digest and what stands behind it, with two blanks between them
+abbrev pub digest_line : List ℕ → List ℕ → List ℕ
+digest_line digest label = digest ++ 32 ∷ 32 ∷ label
 
--- the line of a deck with a name, and a line feed
+-- a name behind a number of cards, with two blanks between them
+abbrev pub counted : List ℕ → List ℕ → List ℕ
+counted cards name = cards ++ 32 ∷ 32 ∷ name
+
+-- the line of a deck with a name, and a line feed: as `sha256sum` prints it of the deck's text
 abbrev pub manifest_line : List Card → List ℕ → List ℕ
-manifest_line deck name = fields (digest_of deck) (decimal (length deck)) name ++ 10 ∷ []
+manifest_line deck name = digest_line (digest_of deck) name ++ 10 ∷ []
+
+-- the same with the number of the deck's cards before the name
+abbrev pub counted_line : List Card → List ℕ → List ℕ
+counted_line deck name =
+    digest_line (digest_of deck) (counted (decimal (length deck)) name) ++ 10 ∷ []
 
 -- whether a byte is a decimal digit
 abbrev pub is_decimal : ℕ → Bool
@@ -34,11 +43,27 @@ abbrev pub may_be_number : List ℕ → Bool
 may_be_number bytes =
     (nat_lt 0 (length bytes) && nat_le (length bytes) 9) && list_all is_decimal bytes
 
--- a line of a manifest, without its line feed, has these fields
-pub record IsEntry (line digest cards name : List ℕ) : Type 0 where
-  pub fields_are : line ≡ fields digest cards name
-  pub digest_is : may_be_digest digest ≡ true
+-- these bytes are a number of cards and a name behind it
+pub record HasCount (label cards name : List ℕ) : Type 0 where
+  pub fields_are : label ≡ counted cards name
   pub cards_are : may_be_number cards ≡ true
+
+-- these bytes have no number of cards before a name
+abbrev pub HasNoCount : List ℕ → Type 0
+HasNoCount label = (cards name : List ℕ) → HasCount label cards name → ⊥
+
+-- what stands behind a digest has this name: that behind a number of cards, or all of it where it
+-- has none
+abbrev pub IsName : List ℕ → List ℕ → Type 0
+IsName label name =
+    ((cards : List ℕ) × HasCount label cards name) ⊎ (HasNoCount label × (name ≡ label))
+
+-- a line of a manifest, without its line feed, has this digest and this name
+pub record IsEntry (line digest name : List ℕ) : Type 0 where
+  pub label : List ℕ
+  pub line_is : line ≡ digest_line digest label
+  pub digest_is : may_be_digest digest ≡ true
+  pub name_is : IsName label name
 
 -- none of these bytes is a blank
 abbrev pub HasNoBlank : List ℕ → Type 0

@@ -1,13 +1,14 @@
-//! The cards of a deck whose numbers do not rise.
+//! The numbers in the columns 73 to 80 of a deck's cards: where they do not rise, and whether they
+//! do.
 
 ghost use Rattle.std.specs.Prelude.{◌≡◌, ◌≤◌, ◌<◌, ◌++◌, ◌∷◌, ◌^◌, IfOk, OnOk, length, decimal, is_some, unwrap_or};
 ghost use Rattle.card_tools.specs.{
-  Checking.{is_no_rise, last_of, number_of, number_on, told, told_of},
+  Checking.{are_numbered, has_number, is_no_rise, is_numbered_or_blank, last_of, number_of, number_on, numbers_rise, told, told_of},
   Numbering.{is_digit},
 };
 
 use crate::lines::push_glyphs;
-use crate::numbering::number_columns;
+use crate::numbering::{are_blank, number_columns};
 use bcd::Code;
 use cards::Card;
 use std::alloc::{AllocError, Global};
@@ -28,6 +29,38 @@ pub fn check_sequence(alloc: Global, cards: &[Card]) -> Result<Vec<u8>, AllocErr
         before = last_of(before, columns);
     }
     Ok(text)
+}
+
+/// Returns whether the numbers in the columns 73 to 80 of cards rise: two cards at least have one,
+/// each of the others is blank, and each number is higher than the one before it. Fails only if
+/// there is no memory.
+pub fn numbers_rise(alloc: Global, cards: &[Card]) -> Result<bool, AllocError>
+    ensures { IfOk result (λ rise. rise ≡ numbers_rise cards.now) }
+{
+    let told = check_sequence(alloc, cards)?;
+    Ok(are_numbered(cards) && told.is_empty())
+}
+
+/// Whether two cards at least have a number in their columns 73 to 80, and the others are blank.
+fn are_numbered(cards: &[Card]) -> bool
+    ensures { result ≡ are_numbered cards.now }
+{
+    let count = cards.iter().filter(|&card| has_number(card)).count();
+    count >= 2 && cards.iter().all(|card| is_numbered_or_blank(card))
+}
+
+/// Whether a card has a number in its columns 73 to 80.
+fn has_number(card: &Card) -> bool
+    ensures { result ≡ has_number card.now }
+{
+    number_of(number_columns(card)).is_some()
+}
+
+/// Whether a card has a number there, or is blank.
+fn is_numbered_or_blank(card: &Card) -> bool
+    ensures { result ≡ is_numbered_or_blank card.now }
+{
+    has_number(card) || are_blank(&card.0)
 }
 
 /// The number that ends with this character, where this is the one that ends before it.

@@ -22,9 +22,8 @@ pub fn same_decks_do_not_differ()
         (differing first second ≡ 0) ↔ (first ≡ second) }
 {}
 
-/// The law of manifests: a line has the fields of one entry at most.
+/// The law of manifests: a line is read as one digest and one name at most.
 pub fn manifest_lines_have_one_reading()
-    ensures { (line digest cards name other count label : List ℕ) →
-        IsEntry line digest cards name → IsEntry line other count label →
-        (digest ≡ other) × (cards ≡ count) × (name ≡ label) }
+    ensures { (line digest name other label : List ℕ) → IsEntry line digest name →
+        IsEntry line other label → (digest ≡ other) × (name ≡ label) }
 {}

@@ -15,9 +15,9 @@ mod listing;
 mod manifests;
 mod numbering;
 
-pub use checking::check_sequence;
+pub use checking::{check_sequence, numbers_rise};
 pub use comparing::{Comparison, compare};
 pub use laws::{manifest_lines_have_one_reading, numbered_is_in_order, same_decks_do_not_differ};
 pub use listing::{ListOptions, list, list_from};
-pub use manifests::{ManifestEntry, manifest_line, read_manifest_line};
+pub use manifests::{ManifestEntry, counted_line, has_count, manifest_line, read_manifest_line};
 pub use numbering::{SequenceError, SequenceFault, sequence};

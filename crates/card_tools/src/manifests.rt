@@ -1,65 +1,111 @@
-//! Lines of a manifest: a deck's digest, its number of cards, and a name.
+//! Lines of a manifest: a deck's digest and a name, and between them the number of its cards, or
+//! not.
 
 ghost use Rattle.std.specs.{
-  Prelude.{◌≡◌, ◌≢◌, ◌++◌, ◌∷◌, ◌==◌, ℕ, List, IfOk, IfSome, IsNone, OnOk, position, nat_le, nat_lt, ◌&&◌},
+  Prelude.{◌≡◌, ◌≢◌, ◌++◌, ◌∷◌, ◌==◌, ℕ, List, [], true, false, IfOk, IfSome, IsNone, OnOk, position, nat_le, nat_lt, ◌&&◌},
   List.{list_all},
 };
-ghost use Rattle.card_tools.specs.Manifests.{BeginsWithField, HasNoBlank, IsEntry, is_decimal, is_hexadecimal, manifest_line, may_be_digest, may_be_number};
+ghost use Rattle.card_tools.specs.Manifests.{BeginsWithField, HasCount, HasNoBlank, HasNoCount, IsEntry, IsName, counted_line, digest_line, digest_of, is_decimal, is_hexadecimal, manifest_line, may_be_digest, may_be_number};
 
 use cards::{Deck, write_text};
 use std::alloc::{AllocError, Global};
-use texts::{push_digest, push_number_between};
+use texts::{push_decimal, push_digest};
 
-/// The fields of a line of a manifest.
+/// What a line of a manifest says of a deck.
 #[derive(Clone, Copy, Debug)]
 pub struct ManifestEntry<'a> {
     /// The SHA-256 of a deck's text, in 64 lower-case hexadecimal digits.
     pub digest: &'a [u8],
-    /// The number of its cards, in one to nine decimal digits.
-    pub cards: &'a [u8],
     /// The name.
     pub name: &'a [u8],
 }
 
 /// Returns the line of a manifest for a deck: the SHA-256 of its deck text (FIPS 180-4) in
-/// lower-case hexadecimal digits, the number of its cards, and the name, with two blanks between
-/// them. Fails only if there is no memory.
+/// lower-case hexadecimal digits, two blanks, and the name. Fails only if there is no memory.
 pub fn manifest_line(alloc: Global, deck: &Deck, name: &[u8]) -> Result<Vec<u8>, AllocError>
     ensures { IfOk result (λ line. line.items ≡ manifest_line deck.now name.now) }
+{
+    line_with(alloc, deck, name)
+}
+
+/// Returns the same line with the number of the deck's cards before the name, and two blanks
+/// between them. Fails only if there is no memory.
+pub fn counted_line(alloc: Global, deck: &Deck, name: &[u8]) -> Result<Vec<u8>, AllocError>
+    ensures { IfOk result (λ line. line.items ≡ counted_line deck.now name.now) }
+{
+    let mut label = Vec::new(alloc);
+    push_decimal(&mut label, deck.cards().len())?;
+    label.extend_from_slice(b"  ")?;
+    label.extend_from_slice(name)?;
+    line_with(alloc, deck, &label)
+}
+
+/// The line of a deck's digest with this behind it, and a line feed.
+fn line_with(alloc: Global, deck: &Deck, label: &[u8]) -> Result<Vec<u8>, AllocError>
+    ensures { IfOk result (λ line. line.items
+        ≡ digest_line (digest_of deck.now) label.now ++ 10 ∷ []) }
 {
     let text = write_text(alloc, deck)?;
     let mut line = Vec::new(alloc);
     push_digest(alloc, &mut line, &text)?;
-    push_number_between(&mut line, b"  ", deck.cards().len(), b"  ")?;
-    line.extend_from_slice(name)?;
+    line.extend_from_slice(b"  ")?;
+    line.extend_from_slice(label)?;
     line.push(b'\n')?;
     Ok(line)
 }
 
-/// The fields of a line of a manifest, which is given without its line feed.
+/// The digest and the name of a line of a manifest, which is given without its line feed. What
+/// stands before the name may be a number of cards.
 pub fn read_manifest_line(line: &[u8]) -> Option<ManifestEntry<'_>>
-    ensures found { IfSome result (λ entry.
-        IsEntry line.now entry.digest.now entry.cards.now entry.name.now) }
-    ensures missing { IsNone result → (digest cards name : List ℕ) →
-        IsEntry line.now digest cards name → ⊥ }
+    ensures found { IfSome result (λ entry. IsEntry line.now entry.digest.now entry.name.now) }
+    ensures missing { IsNone result → (digest name : List ℕ) → IsEntry line.now digest name → ⊥ }
 {
-    let Some((digest, rest)) = split_field(line) else {
+    let Some((digest, label)) = split_field(line) else {
         return None;
     };
     if !may_be_digest(digest) {
         return None;
     }
-    let Some((cards, name)) = split_field(rest) else {
+    Some(ManifestEntry {
+        digest,
+        name: name_in(label),
+    })
+}
+
+/// Returns whether a name begins with one to nine decimal digits and two blanks, and so would be
+/// read behind a digest as a number of cards and another name.
+pub fn has_count(name: &[u8]) -> bool
+    ensures yes { result ≡ true → HasNoCount name.now → ⊥ }
+    ensures no { result ≡ false → HasNoCount name.now }
+{
+    match behind_count(name) {
+        Some(_) => true,
+        None => false,
+    }
+}
+
+/// The name in what stands behind a digest.
+fn name_in(label: &[u8]) -> &[u8]
+    ensures { IsName label.now result.now }
+{
+    match behind_count(label) {
+        Some(name) => name,
+        None => label,
+    }
+}
+
+/// The name behind a number of cards, if there is one.
+fn behind_count(label: &[u8]) -> Option<&[u8]>
+    ensures found { IfSome result (λ name. (cards : List ℕ) × HasCount label.now cards name.now) }
+    ensures none { IsNone result → HasNoCount label.now }
+{
+    let Some((cards, name)) = split_field(label) else {
         return None;
     };
     if !may_be_number(cards) {
         return None;
     }
-    Some(ManifestEntry {
-        digest,
-        cards,
-        name,
-    })
+    Some(name)
 }
 
 /// The first field of the bytes, and what follows the two blanks that end it.

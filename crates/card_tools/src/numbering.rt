@@ -167,7 +167,7 @@ fn are_digits(codes: &[Code]) -> bool
 }
 
 /// Whether all of these characters are blank.
-fn are_blank(codes: &[Code]) -> bool
+pub(crate) fn are_blank(codes: &[Code]) -> bool
     ensures { result ≡ are_blank codes.now }
 {
     codes.iter().all(|code| code.number() == 0)

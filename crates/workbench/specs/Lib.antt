@@ -1,2 +1,3 @@
 pub mod Decks
+pub mod Punching
 pub mod Sources

@@ -5,8 +5,10 @@ ghost use Rattle.cards.specs.Decks.{IsDeck};
 ghost use Rattle.card_forms.specs.Forms.{IsFileOf};
 ghost use Rattle.workbench.specs.Decks.{form_of};
 
+use crate::characters::{tell_character, tell_remedy};
 use crate::undone::Undone;
 use card_forms::{Form, FormError, FormFault, read_either};
+use card_texts::remedy_of;
 use cards::Deck;
 use command_line::Status;
 use std::alloc::Global;
@@ -52,6 +54,25 @@ fn is_punched(fault: FormFault, byte: u8) -> bool {
     }
 }
 
+/// The byte at a place, or 0 behind the last one.
+fn byte_at(bytes: &[u8], place: usize) -> u8 {
+    bytes.get(place).copied().unwrap_or(0)
+}
+
+/// The first four bytes of the character at the place of a fault in a deck text, filled up with
+/// zeros.
+fn character_at(bytes: &[u8], fault: FormFault) -> [u8; 4] {
+    let cards = usize::from(fault.card).saturating_sub(1);
+    let columns = usize::from(fault.column).saturating_sub(1);
+    let place = 81 * cards + columns;
+    [
+        byte_at(bytes, place),
+        byte_at(bytes, place + 1),
+        byte_at(bytes, place + 2),
+        byte_at(bytes, place + 3),
+    ]
+}
+
 /// The way out for a deck text.
 fn way_out_of_text(bytes: &[u8], fault: FormFault) -> &'static str {
     if is_column_binary(bytes) {
@@ -59,8 +80,9 @@ fn way_out_of_text(bytes: &[u8], fault: FormFault) -> &'static str {
     }
     match fault.error {
         FormError::Length if fault.column <= 80 => "; workbench punch fills lines up",
-        FormError::Length => "; workbench punch takes such texts",
+        FormError::Length => "; workbench punch takes it or says more",
         FormError::Sign(byte) if is_punched(fault, byte) => "; workbench punch takes such texts",
+        FormError::Sign(_) => "; workbench punch says more",
         _ => "",
     }
 }
@@ -68,9 +90,38 @@ fn way_out_of_text(bytes: &[u8], fault: FormFault) -> &'static str {
 /// The way out for a text of SimH.
 fn way_out_of_signs(fault: FormFault) -> &'static str {
     match fault.error {
-        FormError::Length => "; workbench punch takes such texts by --signs simh and --keep",
+        FormError::Length => "; workbench punch --signs simh says how long it is",
         FormError::Sign(byte) if is_punched(fault, byte) => {
             "; workbench punch takes such texts by --signs simh"
+        }
+        FormError::Sign(_) => "; workbench punch --signs simh says more",
+        _ => "",
+    }
+}
+
+/// The way out for column binary.
+fn way_out_of_binary(bytes: &[u8], fault: FormFault) -> &'static str {
+    match fault.error {
+        FormError::Length if bytes.len() % 2 == 1 => {
+            "; it has an odd number of bytes, and a column has two"
+        }
+        FormError::Length => "; a card has 160 bytes",
+        FormError::Sign(_) => "; a byte of column binary is below 64",
+        _ => "",
+    }
+}
+
+/// Whether a carriage return stands behind the digits of a card in a punch file.
+fn is_returned(bytes: &[u8], fault: FormFault) -> bool {
+    let cards = usize::from(fault.card).saturating_sub(1);
+    fault.column == 81 && byte_at(bytes, 241 * cards + 240) == b'\r'
+}
+
+/// The way out for a punch file.
+fn way_out_of_digits(bytes: &[u8], fault: FormFault) -> &'static str {
+    match fault.error {
+        FormError::Length if is_returned(bytes, fault) => {
+            "; a line ends with a line feed alone, and here a carriage return is before it"
         }
         _ => "",
     }
@@ -81,17 +132,19 @@ fn way_out(form: Form, bytes: &[u8], fault: FormFault) -> &'static str {
     match form {
         Form::Text => way_out_of_text(bytes, fault),
         Form::Simh => way_out_of_signs(fault),
-        Form::Punch => match fault.error {
-            FormError::Sign(byte) if byte.is_ascii_lowercase() => {
-                "; the digits A to F are capitals"
-            }
-            _ => "",
-        },
-        Form::Binary => match fault.error {
-            FormError::Length => "; a card has 160 bytes",
-            FormError::Sign(_) => "; a byte of column binary is below 64",
-            _ => "",
-        },
+        Form::Punch => way_out_of_digits(bytes, fault),
+        Form::Binary => way_out_of_binary(bytes, fault),
+    }
+}
+
+/// The page that says what the form is, where `punch` takes no such file.
+fn page_of_form(form: Form, error: FormError) -> &'static str {
+    if let FormError::TooManyCards = error {
+        return "";
+    }
+    match form {
+        Form::Text | Form::Simh => "",
+        Form::Punch | Form::Binary => "; workbench convert --help has the forms",
     }
 }
 
@@ -120,11 +173,38 @@ fn tell_byte<E: Write>(errors: &mut E, byte: u8) -> io::Result<()> {
     }
 }
 
+/// Writes which byte or character of a deck text is no glyph, and what helps.
+fn tell_glyph<E: Write>(
+    errors: &mut E,
+    bytes: &[u8],
+    fault: FormFault,
+    byte: u8,
+) -> io::Result<()> {
+    let is_told = is_punched(fault, byte) || is_column_binary(bytes);
+    let character = character_at(bytes, fault);
+    if is_told || (b' '..=b'~').contains(&byte) {
+        tell_byte(errors, byte)?;
+    } else {
+        tell_character(errors, &character)?;
+    }
+    errors.write_all(b" is no sign of the form text")?;
+    if is_told {
+        return Ok(());
+    }
+    tell_remedy(errors, remedy_of(&character))
+}
+
 /// Writes what is wrong with a file of a deck.
-fn tell_wrong<E: Write>(errors: &mut E, form: Form, fault: FormFault) -> io::Result<()> {
+fn tell_wrong<E: Write>(
+    errors: &mut E,
+    form: Form,
+    bytes: &[u8],
+    fault: FormFault,
+) -> io::Result<()> {
     match fault.error {
         FormError::NoMemory => Ok(()),
         FormError::Length => errors.write_all(words_of_length(form, fault.column).as_bytes()),
+        FormError::Sign(byte) if form == Form::Text => tell_glyph(errors, bytes, fault, byte),
         FormError::Sign(byte) => {
             tell_byte(errors, byte)?;
             let form = form.word();
@@ -155,9 +235,10 @@ pub(crate) fn tell_form_fault<E: Write>(
     let card = fault.card;
     let column = fault.column;
     write!(errors, "{path}: card {card} column {column}: ")?;
-    tell_wrong(errors, form, fault)?;
+    tell_wrong(errors, form, bytes, fault)?;
     let way_out = way_out(form, bytes, fault);
-    writeln!(errors, "{way_out}")?;
+    let page = page_of_form(form, fault.error);
+    writeln!(errors, "{way_out}{page}")?;
     Ok(Undone::Told(Status::NotDone))
 }
 

@@ -8,6 +8,7 @@
 #![tactic(auto)]
 
 mod benching;
+mod characters;
 mod converting;
 mod decks;
 mod drawing;
@@ -29,7 +30,7 @@ use crate::converting::convert;
 use crate::drawing::{draw_card, draw_deck, draw_pages};
 use crate::filing::write_page;
 use crate::listing::{compare_decks, list_deck};
-use crate::manifests::manifest;
+use crate::manifests::{Listing, manifest};
 use crate::numbering::{check_numbers, number_deck};
 use crate::process::Process;
 use crate::punching::punch_text;
@@ -78,7 +79,23 @@ fn work<W: Write, E: Write>(
             narrow,
             with_data,
         } => show_source(process, source, Showing::of(*narrow, *with_data)),
-        Task::Manifest { decks, form, known } => manifest(process, decks, *form, *known),
+        Task::Manifest {
+            decks,
+            form,
+            counts,
+            known,
+        } => {
+            let (form, counts, known) = (*form, *counts, *known);
+            manifest(
+                process,
+                decks,
+                Listing {
+                    form,
+                    counts,
+                    known,
+                },
+            )
+        },
         Task::Trace(tracing) => trace_deck(process, *tracing),
         Task::Dump(dumping) => dump_deck(process, *dumping),
         Task::Profile { setup, names } => profile_deck(process, *setup, *names),

@@ -3,56 +3,97 @@
 ghost use Rattle.std.specs.Prelude.{◌≡◌, ◌<◌, List, length, IfOk};
 ghost use Rattle.cards.specs.{Decks.{IsDeck}, declared.Card.{Card}};
 ghost use Rattle.card_forms.specs.Forms.{IsFileOf};
-ghost use Rattle.card_tools.specs.Manifests.{manifest_line};
-ghost use Rattle.workbench.specs.Decks.{form_of};
+ghost use Rattle.workbench.specs.Decks.{form_of, line_by};
 
 use crate::decks::{Named, read_as, tell_form_fault};
 use crate::folders::{Found, files_of};
 use crate::process::{Process, status_if};
 use crate::undone::Undone;
 use card_forms::{Form, FormFault, OUT_OF_MEMORY};
-use card_tools::{ManifestEntry, manifest_line, read_manifest_line};
+use card_tools::{ManifestEntry, counted_line, has_count, manifest_line, read_manifest_line};
+use cards::Deck;
 use command_line::Status;
 use std::alloc::{AllocError, Global};
 use std::io::Write;
 use std::{fs, io};
+
+/// How the decks of a manifest are read and told.
+#[derive(Clone, Copy)]
+pub(crate) struct Listing<'a> {
+    /// The form of all files, if one is named.
+    pub form: Option<Form>,
+    /// Whether the number of cards stands before each name.
+    pub counts: bool,
+    /// The path of the lines to compare with, if there are some.
+    pub known: Option<&'a str>,
+}
+
+/// The line of a deck with this name, with the number of its cards if that is asked for.
+fn line_by(alloc: Global, counts: bool, deck: &Deck, name: &[u8]) -> Result<Vec<u8>, AllocError>
+    ensures { IfOk result (λ line. line.items ≡ line_by counts deck.now name.now) }
+{
+    if counts {
+        counted_line(alloc, deck, name)
+    } else {
+        manifest_line(alloc, deck, name)
+    }
+}
 
 /// The line of the deck in a file with this name.
 fn line_of(
     alloc: Global,
     name: &str,
     form: Option<Form>,
+    counts: bool,
     bytes: &[u8],
 ) -> Result<Vec<u8>, FormFault>
     ensures { IfOk result (λ line. (cards : List Card) × IsDeck cards
         × IsFileOf (form_of form bytes.now) bytes.now cards
-        × (line.items ≡ manifest_line cards name.now)) }
+        × (line.items ≡ line_by counts cards name.now)) }
 {
     let deck = read_as(alloc, form, bytes)?;
-    match manifest_line(alloc, &deck, name.as_bytes()) {
+    match line_by(alloc, counts, &deck, name.as_bytes()) {
         Ok(line) => Ok(line),
         Err(_) => Err(OUT_OF_MEMORY),
     }
+}
+
+/// What is said of a name that would be read as a number of cards and another name.
+const COUNT_IN_FRONT: &str =
+    "its name begins with a number and two blanks, as a line of --cards has; write ./ before it";
+
+/// Why no line can have a name, if none can: other programs, or `--check`, would read another name.
+fn hindrance_of(name: &[u8]) -> Option<&'static str> {
+    if name.contains(&b'\n') {
+        return Some("its name has a line feed; rename it");
+    }
+    if name.ends_with(b"\r") {
+        return Some("its name ends with a carriage return; rename it");
+    }
+    if has_count(name) {
+        return Some(COUNT_IN_FRONT);
+    }
+    None
 }
 
 /// The line of the deck in the file at a path.
 fn line_at<W: Write, E: Write>(
     process: &mut Process<W, E>,
     path: &str,
-    form: Option<Form>,
+    listing: Listing<'_>,
 ) -> Result<Vec<u8>, Undone> {
-    if path.as_bytes().contains(&b'\n') {
-        return Err(process.refuse(path, "its name has a line feed; rename it")?);
+    if let Some(why) = hindrance_of(path.as_bytes()) {
+        return Err(process.refuse(path, why)?);
     }
     let bytes = process.read(path)?;
-    match line_of(process.alloc(), path, form, &bytes) {
+    match line_of(process.alloc(), path, listing.form, listing.counts, &bytes) {
         Ok(line) => Ok(line),
         Err(fault) => {
             let file = Named {
                 path,
                 bytes: &bytes,
             };
-            Err(tell_form_fault(&mut process.errors, file, form, fault)?)
+            Err(tell_form_fault(&mut process.errors, file, listing.form, fault)?)
         }
     }
 }
@@ -84,7 +125,7 @@ fn take_damaged<'a>(
 fn lines_at<'a, W: Write, E: Write>(
     process: &mut Process<W, E>,
     files: &'a Found,
-    form: Option<Form>,
+    listing: Listing<'_>,
 ) -> Result<Lines<'a>, Undone> {
     let mut lines = Lines {
         text: Vec::new(process.alloc()),
@@ -93,7 +134,7 @@ fn lines_at<'a, W: Write, E: Write>(
     };
     for path in &files.paths {
         let path = path.as_str();
-        match line_at(process, path, form) {
+        match line_at(process, path, listing) {
             Ok(line) => lines.text.extend_from_slice(&line)?,
             Err(Undone::Told(_)) => {
                 lines.whole = false;
@@ -252,16 +293,15 @@ fn check_manifest<W: Write, E: Write>(
 }
 
 /// Prints the digests of decks in the order of their names, or compares them with those of a file.
-/// The decks are in files of a form, if one is named; a path may be that of a folder.
+/// A path may be that of a folder.
 pub(crate) fn manifest<W: Write, E: Write>(
     process: &mut Process<W, E>,
     paths: &[&str],
-    form: Option<Form>,
-    known: Option<&str>,
+    listing: Listing<'_>,
 ) -> Result<Status, Undone> {
     let files = files_of(process, paths)?;
-    let lines = lines_at(process, &files, form)?;
-    match known {
+    let lines = lines_at(process, &files, listing)?;
+    match listing.known {
         Some(path) => check_manifest(process, &lines, path),
         None => process.print(&lines.text, status_if(lines.whole)),
     }

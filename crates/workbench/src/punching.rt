@@ -1,56 +1,35 @@
 //! The subcommand `punch`.
 
-ghost use Rattle.std.specs.Prelude.{◌≡◌, ◌≤◌, [], IfOk};
+ghost use Rattle.std.specs.Prelude.{◌≡◌, ◌++◌, [], IfOk, OnOk};
 ghost use Rattle.card_texts.specs.Punching.{deck_text_of, faults_of};
+ghost use Rattle.workbench.specs.Punching.{IsSum, count_told, empty_told, is_empty_line, numbers_told, sum_line, tabs_of};
 
+use crate::characters::{tell_character, tell_remedy};
 use crate::process::Process;
 use crate::undone::Undone;
-use card_texts::{Change, Rules, TextError, TextFault, Unpunched, changes, punch};
+use card_texts::{Change, Rules, TextError, TextFault, Unpunched, changes, punch, remedy_of};
+use card_tools::numbers_rise;
+use cards::read_text;
 use command_line::Status;
-use std::alloc::Global;
+use std::alloc::{AllocError, Global};
 use std::io;
 use std::io::Write;
+use texts::push_decimal;
 use workbench_arguments::Punching;
 
 /// How many faults are printed at most.
 const MOST_FAULTS: usize = 100;
 
-/// How many bytes a character of UTF-8 has that begins with this one.
-fn length_by(first: u8) -> usize
-    ensures { result ≤ 4 }
-{
-    if first < 192 {
-        return 1;
-    }
-    if first < 224 {
-        return 2;
-    }
-    if first < 240 { 3 } else { 4 }
-}
+/// What is said of a line of a punch file.
+const PUNCH_FILE: &[u8] =
+    b"240 hexadecimal digits: this is a punch file; workbench convert IN OUT punch text\n";
 
-/// The character of UTF-8 that begins with these bytes, or none where it is not one.
-fn character(bytes: &[u8; 4]) -> Option<&str> {
-    str::from_utf8(&bytes[..length_by(bytes[0])]).ok()
-}
-
-/// Whether a character can be shown as it is: it is no control character.
-fn is_shown(bytes: &[u8; 4]) -> bool {
-    match bytes[0] {
-        0..=32 | 127 => false,
-        0xC2 => bytes[1] >= 0xA0,
-        _ => true,
-    }
-}
-
-/// Says which character has no card code.
+/// Says which character has no card code, and what helps.
 fn tell_no_code<E: Write>(errors: &mut E, bytes: [u8; 4]) -> io::Result<()> {
-    let first = bytes[0];
-    match character(&bytes) {
-        Some(text) if is_shown(&bytes) => {
-            writeln!(errors, "the character {text} has no card code")
-        }
-        _ => writeln!(errors, "the byte \\x{first:02X} has no card code"),
-    }
+    tell_character(errors, &bytes)?;
+    errors.write_all(b" has no card code")?;
+    tell_remedy(errors, remedy_of(&bytes))?;
+    writeln!(errors)
 }
 
 /// Says what is wrong with a line.
@@ -68,29 +47,26 @@ fn tell_text_fault<E: Write>(errors: &mut E, fault: TextFault) -> io::Result<()>
         TextError::NoCode(bytes) => tell_no_code(errors, bytes),
         TextError::SmallLetter => writeln!(errors, "a small letter; --fold makes it a capital"),
         TextError::Tab => writeln!(errors, "a tab; give its columns with --tabs 6,16,21,41"),
-        TextError::PastTheCard => writeln!(
-            errors,
-            "the line is longer than a card; --keep 72 leaves sequence numbers out"
-        ),
+        TextError::PastTheCard(width) => {
+            writeln!(errors, "the line has {width} columns, and a card has 80")
+        }
+        TextError::PunchLine => errors.write_all(PUNCH_FILE),
         TextError::EmptyLine => writeln!(errors, "an empty line; --empty drop leaves it out"),
         TextError::TooManyCards => Ok(()),
     }
 }
 
-/// Whether the first line of a text is one of a punch file, but that its digits may be small.
-fn is_punch_file(text: &[u8]) -> bool {
-    match text.get(..240) {
-        Some(line) => line.iter().all(|digit| digit.is_ascii_hexdigit()),
-        None => false,
-    }
+/// Whether a fault is that a line is one of a punch file.
+fn is_of_punch_file(fault: &TextFault) -> bool {
+    matches!(fault.error, TextError::PunchLine)
 }
 
 /// Says what is wrong with the lines of a text.
-fn tell_text_faults<E: Write>(errors: &mut E, text: &[u8], faults: &[TextFault]) -> io::Result<()> {
-    if is_punch_file(text) {
-        return errors.write_all(
-            b"its lines have the digits of a punch file; workbench convert IN OUT punch text\n",
-        );
+///
+/// Where a line is one of a punch file, it alone is told: no other way out is one of its lines.
+fn tell_text_faults<E: Write>(errors: &mut E, faults: &[TextFault]) -> io::Result<()> {
+    if let Some(fault) = faults.iter().find(|&fault| is_of_punch_file(fault)) {
+        return tell_text_fault(errors, *fault);
     }
     for fault in faults.iter().take(MOST_FAULTS) {
         tell_text_fault(errors, *fault)?;
@@ -115,7 +91,7 @@ fn punched<E: Write>(
     match punch(alloc, rules, text) {
         Ok(deck) => Ok(deck),
         Err(Unpunched::Faults(faults)) => {
-            tell_text_faults(errors, text, &faults)?;
+            tell_text_faults(errors, &faults)?;
             Err(Undone::Told(Status::NotDone))
         }
         Err(Unpunched::NoMemory) => Err(Undone::Memory),
@@ -150,63 +126,136 @@ fn tell_change<E: Write>(errors: &mut E, change: &Change) -> io::Result<()> {
 /// How many lines were taken, and how many of them were changed and in which way.
 #[derive(Clone, Copy)]
 struct Sum {
-    /// The lines that were filled up.
+    /// The lines that are cards.
+    cards: usize,
+    /// Those that were filled up.
     filled: usize,
     /// Those with small letters.
     folded: usize,
-    /// The tabs of all lines.
+    /// The tabs of all lines; the greatest number that there is where they are more.
     tabs: usize,
     /// The lines that are blank cards.
     blank: usize,
+    /// Those of them that had fewer than 80 columns.
+    empty: usize,
+}
+
+/// Whether the card of a line is blank, and the line had fewer than 80 columns.
+fn is_empty_line(change: &Change) -> bool
+    ensures { result ≡ is_empty_line change.now }
+{
+    change.blank && change.filled
+}
+
+/// The tabs of lines, or the greatest number that there is.
+fn tabs_of(changes: &[Change]) -> usize
+    ensures { result ≡ tabs_of changes.now }
+{
+    let mut tabs = 0usize;
+    for change in changes {
+        tabs = tabs.saturating_add(change.tabs);
+    }
+    tabs
 }
 
 /// The sum of what was done to lines.
-fn sum_of(changes: &[Change]) -> Sum {
-    let mut sum = Sum {
-        filled: 0,
-        folded: 0,
-        tabs: 0,
-        blank: 0,
-    };
-    for change in changes {
-        sum.filled = sum.filled.saturating_add(change.filled as usize);
-        sum.folded = sum.folded.saturating_add(change.folded as usize);
-        sum.tabs = sum.tabs.saturating_add(change.tabs);
-        sum.blank = sum.blank.saturating_add(change.blank as usize);
+fn sum_of(changes: &[Change]) -> Sum
+    ensures { IsSum changes.now result }
+{
+    Sum {
+        cards: changes.len(),
+        filled: changes.iter().filter(|&change| change.filled).count(),
+        folded: changes.iter().filter(|&change| change.folded).count(),
+        tabs: tabs_of(changes),
+        blank: changes.iter().filter(|&change| change.blank).count(),
+        empty: changes
+            .iter()
+            .filter(|&change| is_empty_line(change))
+            .count(),
     }
-    sum
 }
 
-/// Says what was done to the lines of a text.
-fn tell_sum<E: Write>(errors: &mut E, changes: &[Change]) -> io::Result<()> {
-    let cards = changes.len();
-    let sum = sum_of(changes);
-    write!(errors, "cards {cards}")?;
-    tell_count(errors, "filled", sum.filled)?;
-    tell_count(errors, "folded", sum.folded)?;
-    tell_count(errors, "tabs", sum.tabs)?;
-    tell_count(errors, "blank", sum.blank)?;
-    writeln!(errors)
+/// Adds a word and a number, unless the number is 0.
+fn push_count(line: &mut Vec<u8>, word: &[u8], count: usize) -> Result<(), AllocError>
+    ensures { OnOk result (line.new.items ≡ line.old.items ++ count_told word.now count) }
+{
+    if count == 0 {
+        return Ok(());
+    }
+    line.extend_from_slice(word)?;
+    push_decimal(line, count)
 }
 
-/// Says what was done to the lines of a text: of each that was changed, if that is asked for, and
-/// their sum.
+/// The option that leaves out blank cards, where there are some and all of them were empty lines.
+fn empty_told(sum: &Sum) -> &'static [u8]
+    ensures { result.now ≡ empty_told sum.now }
+{
+    if 0 < sum.blank && sum.empty == sum.blank {
+        b" (--empty drop)"
+    } else {
+        b""
+    }
+}
+
+/// The option that leaves out the numbers in columns 73 to 80, where these rise.
+fn numbers_told(rise: bool) -> &'static [u8]
+    ensures { result.now ≡ numbers_told rise }
+{
+    if rise {
+        b"; columns 73-80 hold rising numbers (--keep 72)"
+    } else {
+        b""
+    }
+}
+
+/// The line that says what was done to the lines of a text, and which options would leave out what
+/// may be no part of the deck.
+fn sum_line(alloc: Global, sum: &Sum, rise: bool) -> Result<Vec<u8>, AllocError>
+    ensures { IfOk result (λ line. line.items ≡ sum_line sum.now rise) }
+{
+    let mut line = Vec::new(alloc);
+    line.extend_from_slice(b"cards ")?;
+    push_decimal(&mut line, sum.cards)?;
+    push_count(&mut line, b" filled ", sum.filled)?;
+    push_count(&mut line, b" folded ", sum.folded)?;
+    push_count(&mut line, b" tabs ", sum.tabs)?;
+    push_count(&mut line, b" blank ", sum.blank)?;
+    line.extend_from_slice(empty_told(sum))?;
+    line.extend_from_slice(numbers_told(rise))?;
+    line.push(b'\n')?;
+    Ok(line)
+}
+
+/// Whether the numbers in columns 73 to 80 of a deck's text rise; not where it is none, or where
+/// there is no memory.
+fn rises(alloc: Global, deck: &[u8]) -> bool {
+    let Ok(deck) = read_text(alloc, deck) else {
+        return false;
+    };
+    numbers_rise(alloc, deck.cards()).unwrap_or(false)
+}
+
+/// Says what was done to the lines of a text that was taken as a deck: of each that was changed, if
+/// that is asked for, and their sum.
 fn tell_changes<E: Write>(
     alloc: Global,
-    rules: &Rules,
+    punching: &Punching<'_>,
     text: &[u8],
-    reports: bool,
+    deck: &[u8],
     errors: &mut E,
 ) -> io::Result<()> {
-    let Ok(changes) = changes(alloc, rules, text) else {
+    let Ok(changes) = changes(alloc, &punching.rules, text) else {
         return Ok(());
     };
-    if reports {
+    if punching.reports {
         for change in &changes {
             tell_change(errors, change)?;
         }
     }
-    tell_sum(errors, &changes)
+    let Ok(line) = sum_line(alloc, &sum_of(&changes), rises(alloc, deck)) else {
+        return Ok(());
+    };
+    errors.write_all(&line)
 }
 
 /// Takes a text as a deck, and writes the deck's text.
@@ -215,10 +264,9 @@ pub(crate) fn punch_text<W: Write, E: Write>(
     punching: &Punching<'_>,
 ) -> Result<Status, Undone> {
     let alloc = process.alloc();
-    let rules = &punching.rules;
     let text = process.read(punching.text)?;
-    let deck = punched(alloc, rules, &text, &mut process.errors)?;
+    let deck = punched(alloc, &punching.rules, &text, &mut process.errors)?;
     let status = process.write(punching.out, &deck)?;
-    tell_changes(alloc, rules, &text, punching.reports, &mut process.errors)?;
+    tell_changes(alloc, punching, &text, &deck, &mut process.errors)?;
     Ok(status)
 }

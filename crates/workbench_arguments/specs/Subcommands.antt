@@ -54,8 +54,9 @@ workbench = record {
       ∷ (
         name.Manifest,
         codes "manifest",
-        (codes "FILE", Several) ∷ (codes "form", Setting) ∷ (codes "check", Setting) ∷ [],
-        codes "manifest FILE.. [--form FORM] [--check KNOWN]",
+        (codes "FILE", Several) ∷ (codes "form", Setting) ∷ (codes "cards", Flag)
+            ∷ (codes "check", Setting) ∷ [],
+        codes "manifest FILE.. [--form FORM] [--cards] [--check KNOWN]",
       )
       ∷ (
         name.Trace,

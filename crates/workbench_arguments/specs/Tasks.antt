@@ -106,9 +106,9 @@ HasForm found form = ReadsIf (λ argument form. argument ≡ word_of form) (firs
 
 -- the task of `manifest`
 abbrev pub WantsManifest : List Row → Task → Type 0
-WantsManifest found (Manifest decks form known) =
+WantsManifest found (Manifest decks form counts known) =
     (map (λ deck. deck.now) decks.items ≡ unwrap_or (all_of (codes "FILE") found) [])
-    × HasForm found form
+    × HasForm found form × (counts ≡ has_flag (codes "cards") found)
     × MayHaveArgument (codes "check") found known
 WantsManifest found other = ⊥
 

@@ -75,8 +75,12 @@ example:
 
 Blanks at the end of a line are cut, and each card is filled up. Nothing else is
 forgiven: each fault is printed with its line and column, and then OUT is not
-written. One line on standard error says what was done:
-  cards 12 filled 10 folded 9 tabs 21 blank 1
+written. A line of 240 hexadecimal digits is a card of a punch file, and a fault
+by any options. One line on standard error says what was done:
+  cards 12 filled 10 folded 9 tabs 21 blank 1 (--empty drop)
+It names --empty drop where the blank cards were empty lines, and --keep 72
+where each card that is not blank has a number in columns 73 to 80 and these
+numbers rise.
 ";
 
 /// The text that `list --help` prints.
@@ -134,7 +138,7 @@ workbench convert IN OUT FROM TO: makes a deck of one form one of another.
 
 FROM, TO  text    80 glyphs and a line feed a card, as bureau reads it
           punch   three hexadecimal digits a column and a line feed a card, as
-                  bureau export writes it
+                  bureau export writes it; A to F are read as small letters too
           simh    a line of signs a card, as SimH's IBM 1401 reads and punches
                   it
           binary  column binary: two bytes a column, rows 12 to 3 and rows 4 to
@@ -170,8 +174,8 @@ a ^ under its place, and at the end how many there are; the status is 1 then.
 
 /// The text that `manifest --help` prints.
 pub const MANIFEST_HELP: &str = "\
-workbench manifest FILE.. [--form FORM] [--check KNOWN]: prints a digest of each
-deck.
+workbench manifest FILE.. [--form FORM] [--cards] [--check KNOWN]: prints a
+digest of each deck, as sha256sum does of its text.
 
 FILE   files of decks, and folders: of a folder all files in it and in the
        folders below it. A link to a file is taken as that file; links to
@@ -181,19 +185,26 @@ FILE   files of decks, and folders: of a folder all files in it and in the
        one
 FORM   the form of all files: text, punch, simh or binary, as convert --help has
        them; without it text and punch are told by the width of the first line
-KNOWN  a file with lines that manifest printed: what is missing, damaged,
-       different or new is printed in place of the digests, and the status is 1
-       where anything is. A damaged file is there, and is no deck
+KNOWN  a file with lines that manifest printed, with --cards or without: what is
+       missing, damaged, different or new is printed in place of the digests,
+       and the status is 1 where anything is. A damaged file is there, and is no
+       deck
+
+--cards  the number of a deck's cards stands before the name, with two blanks
+         behind it; sha256sum reads no such line
 
 examples:
   workbench manifest examples/two_lines.deck archive > decks.manifest
   workbench manifest examples/two_lines.deck archive --check decks.manifest
+  sha256sum --check decks.manifest
 
-A line is the SHA-256 of the deck's text in hexadecimal, the number of its
-cards, and the name of the file; the lines are sorted by the bytes of the names.
-The digest does not depend on the form of the file, and sha256sum prints the
-same of a deck text. A file that is no deck is told with its fault, the status
-is 1 then, and the others go on.
+A line is the SHA-256 of the deck's text in hexadecimal and the name of the
+file; the lines are sorted by the bytes of the names. The digest does not depend
+on the form of the file. Of a deck text it is the file's own, and sha256sum
+checks it; a file of another form wants a sha256sum of its own. A name that
+begins with a number and two blanks, or ends with a carriage return, would be
+read as another one and is told. A file that is no deck is told with its fault,
+the status is 1 then, and the others go on.
 ";
 
 /// The text that `trace --help` prints.

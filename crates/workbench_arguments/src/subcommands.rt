@@ -110,9 +110,10 @@ const SUBCOMMANDS: [Syntax<Subcommand>; 15] = [
         arguments: &[
             ("FILE", Kind::Several),
             ("form", Kind::Setting),
+            ("cards", Kind::Flag),
             ("check", Kind::Setting),
         ],
-        usage: "manifest FILE.. [--form FORM] [--check KNOWN]",
+        usage: "manifest FILE.. [--form FORM] [--cards] [--check KNOWN]",
     },
     Syntax {
         subcommand: Subcommand::Trace,

@@ -157,6 +157,8 @@ pub enum Task<'a> {
         decks: Vec<&'a str>,
         /// The form that all of their files have, if it is named.
         form: Option<Form>,
+        /// Whether the number of cards is printed too.
+        counts: bool,
         /// The path of the digests to compare with.
         known: Option<&'a str>,
     },
@@ -378,8 +380,14 @@ fn manifest_task<'a>(alloc: Global, found: &Found<'a>) -> Result<Task<'a>, Mista
 {
     let decks = found.values(alloc, "FILE")?;
     let form = option_form_in(found)?;
+    let counts = found.has_flag("cards");
     let known = found.value("check");
-    Ok(Task::Manifest { decks, form, known })
+    Ok(Task::Manifest {
+        decks,
+        form,
+        counts,
+        known,
+    })
 }
 
 /// The task of a subcommand, by what clap found after its name.

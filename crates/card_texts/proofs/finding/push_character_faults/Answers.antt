@@ -1,6 +1,6 @@
 use Rattle.std.proofs.Common.{arith, sym, ◌∙◌}
 use Rattle.card_texts.proofs.FaultLemmas.{within_step, bare_step}
-use Rattle.card_texts.proofs.finding.push_faults.Goals as goal
+use Rattle.card_texts.proofs.finding.push_character_faults.Goals as goal
 
 pub loop-byte-preserved-then-filled-lt-COLUMNS : goal.loop-byte-preserved-then-filled-lt-COLUMNS
 loop-byte-preserved-then-filled-lt-COLUMNS c =
