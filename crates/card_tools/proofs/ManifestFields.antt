@@ -6,7 +6,7 @@ use Rattle.std.proofs.lemmas.List.{drop_at, get_or_at, get_or_append_left, get_o
 use Rattle.std.proofs.lemmas.List.Elements.{All-head, All-tail, All-cons, All-nil}
 use Rattle.std.proofs.lemmas.List.Quantifiers.{position-Some}
 use Rattle.std.proofs.lemmas.List.Sums.{position_or_len_is}
-use Rattle.card_tools.specs.Manifests.{BeginsWithField, HasCount, HasNoBlank, HasNoCount, IsEntry, IsName, is_decimal, is_hexadecimal, may_be_digest, may_be_number}
+use Rattle.card_tools.specs.Manifests.{BeginsWithField, HasNoBlank, HasNoCount, IsEntry, IsName, is_decimal, is_hexadecimal, may_be_digest, may_be_number}
 
 -- whether a byte is a blank
 abbrev is_blank : ℕ → Bool

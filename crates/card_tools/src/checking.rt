@@ -1,7 +1,10 @@
 //! The numbers in the columns 73 to 80 of a deck's cards: where they do not rise, and whether they
 //! do.
 
-ghost use Rattle.std.specs.Prelude.{◌≡◌, ◌≤◌, ◌<◌, ◌++◌, ◌∷◌, ◌^◌, IfOk, OnOk, length, decimal, is_some, unwrap_or};
+ghost use Rattle.std.specs.{
+  Prelude.{◌≡◌, ◌≤◌, ◌<◌, ◌++◌, ◌∷◌, ◌^◌, IfOk, OnOk, length, count_by, decimal, is_some, unwrap_or},
+  List.{list_all},
+};
 ghost use Rattle.card_tools.specs.{
   Checking.{are_numbered, has_number, is_no_rise, is_numbered_or_blank, last_of, number_of, number_on, numbers_rise, told, told_of},
   Numbering.{is_digit},
@@ -45,8 +48,21 @@ pub fn numbers_rise(alloc: Global, cards: &[Card]) -> Result<bool, AllocError>
 fn are_numbered(cards: &[Card]) -> bool
     ensures { result ≡ are_numbered cards.now }
 {
-    let count = cards.iter().filter(|&card| has_number(card)).count();
-    count >= 2 && cards.iter().all(|card| is_numbered_or_blank(card))
+    count_numbered(cards) >= 2 && are_numbered_or_blank(cards)
+}
+
+/// How many cards have a number in their columns 73 to 80.
+fn count_numbered(cards: &[Card]) -> usize
+    ensures { result ≡ count_by (λ card. has_number card) cards.now }
+{
+    cards.iter().filter(|&card| has_number(card)).count()
+}
+
+/// Whether each card has a number there, or is blank.
+fn are_numbered_or_blank(cards: &[Card]) -> bool
+    ensures { result ≡ list_all (λ card. is_numbered_or_blank card) cards.now }
+{
+    cards.iter().all(|card| is_numbered_or_blank(card))
 }
 
 /// Whether a card has a number in its columns 73 to 80.
