@@ -1,6 +1,6 @@
 //! The subcommand `punch`.
 
-ghost use Rattle.std.specs.Prelude.{◌≡◌, ◌++◌, [], IfOk, OnOk};
+ghost use Rattle.std.specs.Prelude.{◌≡◌, ◌++◌, [], count_by, IfOk, OnOk};
 ghost use Rattle.card_texts.specs.Punching.{deck_text_of, faults_of};
 ghost use Rattle.workbench.specs.Punching.{IsSum, count_told, empty_told, is_empty_line, numbers_told, sum_line, tabs_of};
 
@@ -147,6 +147,37 @@ fn is_empty_line(change: &Change) -> bool
     change.blank && change.filled
 }
 
+/// How many lines were filled up.
+fn count_filled(changes: &[Change]) -> usize
+    ensures { result ≡ count_by (λ change. change.filled) changes.now }
+{
+    changes.iter().filter(|&change| change.filled).count()
+}
+
+/// How many lines have small letters.
+fn count_folded(changes: &[Change]) -> usize
+    ensures { result ≡ count_by (λ change. change.folded) changes.now }
+{
+    changes.iter().filter(|&change| change.folded).count()
+}
+
+/// How many lines are blank cards.
+fn count_blank(changes: &[Change]) -> usize
+    ensures { result ≡ count_by (λ change. change.blank) changes.now }
+{
+    changes.iter().filter(|&change| change.blank).count()
+}
+
+/// How many lines are blank cards and had fewer than 80 columns.
+fn count_empty(changes: &[Change]) -> usize
+    ensures { result ≡ count_by (λ change. is_empty_line change) changes.now }
+{
+    changes
+        .iter()
+        .filter(|&change| is_empty_line(change))
+        .count()
+}
+
 /// The tabs of lines, or the greatest number that there is.
 fn tabs_of(changes: &[Change]) -> usize
     ensures { result ≡ tabs_of changes.now }
@@ -164,14 +195,11 @@ fn sum_of(changes: &[Change]) -> Sum
 {
     Sum {
         cards: changes.len(),
-        filled: changes.iter().filter(|&change| change.filled).count(),
-        folded: changes.iter().filter(|&change| change.folded).count(),
+        filled: count_filled(changes),
+        folded: count_folded(changes),
         tabs: tabs_of(changes),
-        blank: changes.iter().filter(|&change| change.blank).count(),
-        empty: changes
-            .iter()
-            .filter(|&change| is_empty_line(change))
-            .count(),
+        blank: count_blank(changes),
+        empty: count_empty(changes),
     }
 }
 
