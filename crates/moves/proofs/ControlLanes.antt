@@ -1,5 +1,5 @@
 -- a control field of sixteen lanes that is filled and blanked at once
-use Rattle.std.proofs.Common.{◌≡◌, ◌≢◌, ℕ, zero, suc, ◌-◌, ◌<◌, ◌≤◌, ◌==◌, ◌&&◌, All, Bool, true, false, not, eqb, nat_le, if◌then◌else◌, List, [], ◌∷◌, refl, sym, ◌∙◌, ap, arith, length, drop, map, min, codes}
+use Rattle.std.proofs.Common.{◌≡◌, ◌≢◌, ℕ, zero, suc, ◌-◌, ◌<◌, ◌≤◌, ◌==◌, ◌&&◌, All, Bool, true, false, not, cond, eqb, nat_le, if◌then◌else◌, List, [], ◌∷◌, refl, sym, ◌∙◌, ap, arith, length, drop, map, min, codes}
 use Rattle.std.specs.Simd.Lanes.{sel_l, zip2}
 use Rattle.std.proofs.lemmas.Bool.{eqb-true, ne_eqb, and_right}
 use Rattle.std.proofs.lemmas.List.{length-drop}
@@ -60,6 +60,20 @@ one_kept : (minus : Bool) (count place code : ℕ) → place < 16 → code < 64 
 unfolding filled_code
 one_kept minus count place code lt h = ap (λ b. lane_kept b (nat_le count place) code) (fading minus place lt) ∙ same_kept (eqb place 0) minus (nat_le count place) code h
 
+-- of a minus amount each character is as it is
+pub all_signed : (right none spaced : List ℕ) (n : ℕ) → length right ≡ n → length none ≡ n → length spaced ≡ n → All (λ place. place < 16) right →
+    spaced ≡ sel_l (map (λ key. key == 16) right) none spaced
+all_signed [] [] [] n e f g small = refl
+all_signed [] [] (s ∷ spaced) n e f g small = absurd (omega arith)
+all_signed [] (x ∷ none) spaced n e f g small = absurd (omega arith)
+all_signed (place ∷ right) [] spaced n e f g small = absurd (omega arith)
+all_signed (place ∷ right) (x ∷ none) [] n e f g small = absurd (omega arith)
+all_signed (place ∷ right) (x ∷ none) (s ∷ spaced) n e f g small =
+    let few : place < 16 = All-head (λ k. k < 16) place right small in
+    let ne : place ≢ 16 = omega arith in
+    ap (λ b. cond b x s ∷ spaced) (sym (ne_eqb place 16 ne))
+    ∙ ap (λ l. cond (place == 16) x s ∷ l) (all_signed right none spaced (n - 1) (omega arith) (omega arith) (omega arith) (All-tail (λ k. k < 16) place right small))
+
 abbrev signed_lanes : Bool → List ℕ → List ℕ → List ℕ
 signed_lanes minus right control =
     sel_l (map (λ key. key == (if minus then 16 else 0)) right) (map (replaced 32) (map (replaced 41) (map (replaced 51) (map (replaced 48) control)))) (map (replaced 48) control)
@@ -77,14 +91,14 @@ module _ (right control : List ℕ) (minus : Bool) (count : ℕ) (e : length rig
   -- of what the calls answered
   pub codes_kept : (spaced no_c no_r none : List ℕ) → spaced ≡ map (λ lane. if lane == 48 then 0 else lane) control → no_c ≡ map (λ lane. if lane == 51 then 0 else lane) spaced →
       no_r ≡ map (λ lane. if lane == 41 then 0 else lane) no_c → none ≡ map (λ lane. if lane == 32 then 0 else lane) no_r →
-      (blank_at : ℕ) → blank_at ≡ (if minus then 16 else 0) → (signs : List ℕ) → signs ≡ sel_l (map (λ key. key == blank_at) right) none spaced →
+      (signs : List ℕ) → signs ≡ sel_l (map (λ key. key == (if minus then 16 else 0)) right) none spaced →
       (bare : List ℕ) → bare ≡ map (λ lane. if lane == 27 then 0 else lane) signs → (all : List ℕ) → all ≡ sel_l (map (λ key. nat_le count key) right) bare signs →
       all ≡ zip2 (λ place code. filled_code minus count place code code) right control
-  codes_kept spaced no_c no_r none spaced_is no_c_is no_r_is none_is blank_at blank_is signs signs_is bare bare_is all all_is =
+  codes_kept spaced no_c no_r none spaced_is no_c_is no_r_is none_is signs signs_is bare bare_is all all_is =
       let lanes : none ≡ map (replaced 32) (map (replaced 41) (map (replaced 51) (map (replaced 48) control))) =
       none_is ∙ ap (map (replaced 32)) (no_r_is ∙ ap (map (replaced 41)) (no_c_is ∙ ap (map (replaced 51)) spaced_is)) in
       let shown : signs ≡ signed_lanes minus right control =
-      signs_is ∙ ap (λ n. sel_l (map (λ key. key == n) right) none spaced) blank_is
+      signs_is
       ∙ ap (λ l. sel_l (map (λ key. key == (if minus then 16 else 0)) right) l spaced) lanes
       ∙ ap (sel_l (map (λ key. key == (if minus then 16 else 0)) right) (map (replaced 32) (map (replaced 41) (map (replaced 51) (map (replaced 48) control))))) spaced_is in
       all_is ∙ ap (λ l. sel_l (map (λ key. nat_le count key) right) l signs) (bare_is ∙ ap (map (replaced 27)) shown)

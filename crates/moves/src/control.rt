@@ -198,13 +198,20 @@ fn bring_data(amount: u8x16, count: u16, places: u8x16) -> u8x16
     where_from(places, count as u8, none, brought)
 }
 
-/// The number of digit places to the right of a sign that becomes blank: none, or, for a minus
-/// amount, more than there can be.
+/// The characters, of which a sign is blank that no digit place is to the right of, unless the
+/// amount is minus. `spaced` has all signs, `unsigned` none.
 #[inline(always)]
-fn places_of_blank_sign(minus: bool) -> u8
-    ensures { result ≡ (if minus then 16 else 0) }
+fn fade_sign(spaced: u8x16, unsigned: u8x16, right: u8x16, minus: bool) -> u8x16
+    requires sixteen { length spaced ≡ 16 }
+    requires sixteen_unsigned { length unsigned ≡ 16 }
+    requires sixteen_right { length right ≡ 16 }
+    requires places { All (λ place. place < 16) right }
+    ensures { result ≡ sel_l (map (λ key. key == (if minus then 16 else 0)) right) unsigned spaced }
 {
-    if minus { 16 } else { 0 }
+    if minus {
+        return spaced;
+    }
+    where_equal(right, 0, unsigned, spaced)
 }
 
 /// What is left of the control characters beside the data: a blank for each that is not kept, and
@@ -221,7 +228,7 @@ fn keep_codes(control: u8x16, right: u8x16, count: u16, minus: bool) -> u8x16
 {
     let spaced = replace_lanes(control, 48, 0);
     let unsigned = replace_lanes(replace_lanes(replace_lanes(spaced, 51, 0), 41, 0), 32, 0);
-    let signed = where_equal(right, places_of_blank_sign(minus), unsigned, spaced);
+    let signed = fade_sign(spaced, unsigned, right, minus);
     where_from(right, count as u8, replace_lanes(signed, 27, 0), signed)
 }
 
