@@ -24,6 +24,7 @@ pub mod CreateTexts
 pub mod CreateNames
 pub mod OpeningAnswers
 pub mod PageTables
+pub mod PageUpdates
 pub mod PageLookups
 pub mod PageClears
 pub mod RunningLookups

@@ -141,7 +141,7 @@ each_is customer c number n place k h =
     let last : place == k ≡ true = two.1 in
     ((bytes_eq-Decides customer c).0 both.0, grind (arith, nat_tests), grind (arith, nat_tests))
 
-each_yes : (customer c : List ℕ) (number n place k : ℕ) → customer ≡ c → number ≡ n → place ≡ k → (bytes_eq customer c && ((number == n) && (place == k))) ≡ true
+pub each_yes : (customer c : List ℕ) (number n place k : ℕ) → customer ≡ c → number ≡ n → place ≡ k → (bytes_eq customer c && ((number == n) && (place == k))) ≡ true
 each_yes customer c number n place k same same_number same_place =
     let one = (bytes_eq-Decides customer c).1 same in
     let two : number == n ≡ true = grind (arith, nat_tests) in
@@ -242,7 +242,7 @@ pages_alone complete version old new t all holds schema sound others are = recor
   beside = still_profiles holds.beside (others.1.1.1.1.1.1.1.0 (apart refl)) (others.1.1.1.1.1.1.1.1.0 (apart refl));
 }
 
-pages_there : (there : Beside) → slice_get (schema_beside there).tables (place_of_pages there) ≡ Some (record pages { tree = 13 })
+pub pages_there : (there : Beside) → slice_get (schema_beside there).tables (place_of_pages there) ≡ Some (record pages { tree = 13 })
 pages_there (pictured storages) = refl
 pages_there paged = refl
 pages_there profiled = refl
@@ -256,18 +256,33 @@ page_added customer number page storage old new count h there version t holds no
     let now : new.now.trees 13 ≡ put_row (Int (next_rowid (old.now.trees 13)) ∷ row) (old.now.trees 13) = did.1 ∙ simp (cast_null, cast_int) in
     pages_alone there version old.now new.now t _ holds did.0 did.3 did.2 (put_behind (λ (bytes : List ℕ). Blob bytes ∷ []) customer number page storage (old.now.trees 13) (new.now.trees 13) t.pages holds.pages none now)
 
--- ---- one page less
+-- ---- the row of one page
 
-module _ (customer : List ℕ) (number page : ℕ) where
-  abbrev page_params : Row
-  page_params = Text customer ∷ Int (pos number) ∷ Int (pos page) ∷ []
+module _ (customer : List ℕ) (number page : ℕ) (more : Row) where
+  abbrev pub page_params : Row
+  page_params = Text customer ∷ Int (pos number) ∷ Int (pos page) ∷ more
 
-  abbrev of_page : Row → Bool
+  abbrev pub of_page : Row → Bool
   of_page = on_cells is_place page_params
 
   -- the test is that of the page's name
-  page_passes : (row : Row) → IsOne page_row row → of_page row ≡ is_row_at customer number page row
-  page_passes row h = rw h.4 (place_passes Null h.0 h.1 h.2 (Blob h.3 ∷ []) customer number page [])
+  pub page_passes : (row : Row) → IsOne page_row row → of_page row ≡ is_row_at customer number page row
+  page_passes row h = rw h.4 (place_passes Null h.0 h.1 h.2 (Blob h.3 ∷ []) customer number page more)
+
+  -- a row that passes has the page's name
+  pub page_named : (row : Row) (it : IsOne page_row row) → of_page row ≡ true → (it.0 ≡ customer) × (it.1 ≡ number) × (it.2 ≡ page)
+  page_named row it is =
+      let mine : (bytes_eq it.0 customer && ((it.1 == number) && (it.2 == page))) ≡ true = rw it.4 at (sym (page_passes row it) ∙ is) in
+      each_is it.0 customer it.1 number it.2 page mine
+
+  -- the rows that pass are the page's
+  pub page_found : (db : Trees) (all : ByJob Pages) → IsOfPages (db 13) all → cells (filter (passes is_place page_params) (db 13)) ≡ map (page_row customer number page) (option_to_list (all customer number page))
+  page_found db all is =
+      kept_cells (passes is_place page_params) (is_row_at customer number page) (db 13)
+      (each_test (IsOne page_row) (passes is_place page_params) (is_row_at customer number page) (λ r named. blind_place page_params r ∙ page_passes (drop 1 r) named) (db 13) is.named)
+      ∙ is.each customer number page
+
+  -- ---- one page less
 
   -- the rows of other pages are left
   module _ (c : List ℕ) (n k : ℕ) where
@@ -289,8 +304,7 @@ module _ (customer : List ℕ) (number page : ℕ) where
         go : (b : Bool) → of_page row ≡ b → filter (is_row_at c n k) (left of_page rows) ≡ filter (is_row_at c n k) rows → filter (is_row_at c n k) (left of_page (row ∷ rows)) ≡ filter (is_row_at c n k) (row ∷ rows)
         go true is rest =
             let it = named.0 in
-            let mine : (bytes_eq it.0 customer && ((it.1 == number) && (it.2 == page))) ≡ true = rw it.4 at (sym (page_passes row it) ∙ is) in
-            let name = each_is it.0 customer it.1 number it.2 page mine in
+            let name = page_named row it is in
             let out : (bytes_eq it.0 c && ((it.1 == n) && (it.2 == k))) ≡ false = rw (name.0, name.1, name.2) other in
             rw (is, it.4, out) rest
         go false is rest = rw is (ap (λ xs. cond (is_row_at c n k row) (row ∷ xs) xs) rest)
@@ -313,11 +327,7 @@ module _ (customer : List ℕ) (number page : ℕ) where
       → IsPermutation (map (show (col 1 0 ∷ []) page_params) (filter (passes is_place page_params) (db 13))) rows
       → IsOfPages (new 13) (at_job customer number (at_page page None (all customer number)) all)
   one_less db new all rows is tree some =
-      let found : cells (filter (passes is_place page_params) (db 13)) ≡ map (page_row customer number page) (option_to_list (all customer number page)) =
-      kept_cells (passes is_place page_params) (is_row_at customer number page) (db 13)
-      (each_test (IsOne page_row) (passes is_place page_params) (is_row_at customer number page) (λ r named. blind_place page_params r ∙ page_passes (drop 1 r) named) (db 13) is.named)
-      ∙ is.each customer number page in
-      let are = removed (all customer number page) db rows is.rise found some in
+      let are = removed (all customer number page) db rows is.rise (page_found db all is) some in
       let now : cells (new 13) ≡ left of_page (cells (db 13)) = ap cells tree ∙ are.0 in
       record {
         each = λ c n k. ap (filter (is_row_at c n k)) now
@@ -328,7 +338,7 @@ module _ (customer : List ℕ) (number page : ℕ) where
         rise = subst (IsShaped Rising) (sym tree) are.1;
       }
 
-  pub page_removed : (old new : State) (count : ℕ) → ExecutesInside 0 delete_pages (Text customer ∷ Int (pos number) ∷ Int (pos page) ∷ []) old new (Ok count)
+  pub page_removed : (old new : State) (count : ℕ) → ExecutesInside 0 delete_pages page_params old new (Ok count)
       → (there : Beside) (version : ℕ) (t : Tables) → HoldsAs there version old.now t → HoldsAs there version new.now (with_page customer number page None t)
   page_removed old new count h there version t holds =
       let did = deletes (schema_beside there) delete_pages (place_of_pages there) (record pages { tree = 13 }) is_place (col 1 0 ∷ []) (delete_pages_is there) (pages_there there) (idle_beside there 13) old new page_params count holds.schema h.0 in

@@ -206,6 +206,19 @@ delete_pages_is paged = (refl, (refl, refl))
 delete_pages_is profiled = (refl, (refl, refl))
 delete_pages_is complete = (refl, (refl, refl))
 
+abbrev pub update_page : List ℕ
+update_page = codes "UPDATE pages SET storage = ?4 WHERE customer = ?1 AND number = ?2 AND page = ?3"
+
+abbrev pub new_page_terms : List Term
+new_page_terms = col 1 0 ∷ col 1 0 ∷ col 1 1 ∷ col 1 2 ∷ col 1 3 ∷ col 0 3 ∷ []
+
+pub update_page_is : (there : Beside) → Means (schema_beside there) update_page (Update (place_of_pages there) (record { lets = []; body = plain_query 13 is_place new_page_terms }))
+unfolding understood everything
+update_page_is (pictured storages) = (refl, (refl, refl))
+update_page_is paged = (refl, (refl, refl))
+update_page_is profiled = (refl, (refl, refl))
+update_page_is complete = (refl, (refl, refl))
+
 -- ---- cards
 
 abbrev pub select_cards : List ℕ

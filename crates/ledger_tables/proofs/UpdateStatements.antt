@@ -98,7 +98,7 @@ own_key customer number = key_yes customer number customer number refl refl
 
 -- ---- the state of a job
 
-some_one : {X : Type 0} (o : Option X) → IsSome o → (x : X) × (o ≡ Some x)
+pub some_one : {X : Type 0} (o : Option X) → IsSome o → (x : X) × (o ≡ Some x)
 some_one None some = absurd (let e = some in cc)
 some_one (Some x) some = (x, refl)
 

@@ -69,6 +69,10 @@ with_state_of name = with_state name.customer.now name.number
 abbrev pub HasNoPage : JobName → ℕ → Tables → Type 0
 HasNoPage name page t = of_job name t.pages page ≡ None
 
+-- the page has a row
+abbrev pub HasPage : JobName → ℕ → Tables → Type 0
+HasPage name page t = IsSome (of_job name t.pages page)
+
 -- the tables with this row, or none, for a page of the job's storage
 abbrev pub with_page_of : JobName → ℕ → Option (List ℕ) → Tables → Tables
 with_page_of name = with_page name.customer.now name.number

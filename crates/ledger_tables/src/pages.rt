@@ -2,7 +2,7 @@
 
 ghost use Rattle.std.specs.Prelude.{None, Some, ⊤};
 ghost use Rattle.ledger_tables.specs.{
-  Named.{of_job, HasNoPage, with_page_of, ArePages, HaveNumbers},
+  Named.{of_job, HasNoPage, HasPage, with_page_of, ArePages, HaveNumbers},
   Steps.{ChangesAny, FailsOnly, Finds, IsOpenStep, IsStep},
 };
 
@@ -26,13 +26,30 @@ impl<S: Alter> OpenTables<'_, '_, S> {
     }
 
     /// Inserts the row of a page that has none.
-    fn insert_page(&mut self, name: JobName<'_>, page: u32, storage: &[u8]) -> Result<(), Fault>
+    pub fn insert_page(&mut self, name: JobName<'_>, page: u32, storage: &[u8]) -> Result<(), Fault>
         ensures step { IsStep S.Store self.old self.new result }
         ensures added { ChangesAny S.Store self.old self.new result
             (HasNoPage name.entry page) (with_page_of name.entry page (Some storage.now)) }
     {
         self.run(
             "INSERT INTO pages (customer, number, page, storage) VALUES (?1, ?2, ?3, ?4)",
+            params![name.customer, name.number, page, storage],
+        )
+    }
+
+    /// Replaces the bytes of a page in its row.
+    pub fn replace_page(
+        &mut self,
+        name: JobName<'_>,
+        page: u32,
+        storage: &[u8],
+    ) -> Result<(), Fault>
+        ensures step { IsStep S.Store self.old self.new result }
+        ensures replaced { ChangesAny S.Store self.old self.new result
+            (HasPage name.entry page) (with_page_of name.entry page (Some storage.now)) }
+    {
+        self.run(
+            "UPDATE pages SET storage = ?4 WHERE customer = ?1 AND number = ?2 AND page = ?3",
             params![name.customer, name.number, page, storage],
         )
     }
