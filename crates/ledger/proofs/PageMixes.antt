@@ -6,9 +6,10 @@ use Rattle.std.proofs.lemmas.Bool.Decides.{nat_tests}
 use Rattle.std.proofs.lemmas.List.{length-replicate, take-replicate, drop-replicate}
 use Rattle.std.proofs.lemmas.Slice.Eq.{bytes_eq-Decides}
 use Rattle.sqlite.specs.Effect.{Database}
-use Rattle.core_store.specs.Pages.{page_at, page_count, AreChanged}
+use Rattle.core_store.specs.Pages.{cells_of, page_at, page_count, AreChanged}
 use Rattle.core_store.specs.Planes.{joined_planes}
-use Rattle.core_store.specs.Storage.{Storage, blank_storage}
+use Rattle.core_store.specs.Storage.{Storage, blank_storage, largest_size}
+use Rattle.core_store.specs.declared.planes.PlaneCore.{PlaneCore}
 use Rattle.ledger_tables.specs.Cells.{Pages, blank_bytes, no_pages, unless_blank}
 use Rattle.ledger_tables.specs.Tables.{Beside, ByJob, Tables, HoldsAs, at_job, at_page, with_page, with_pages}
 use Rattle.ledger_rows.specs.Columns.{byte_of}
@@ -67,6 +68,24 @@ mixed_more s t ks page less = fun_ext (λ k. go k (page == k) refl (is_among k k
         stays : (a : Bool) → (if a then rows_of t k else rows_of s k) ≡ (if a || false then rows_of t k else rows_of s k)
         stays true = refl
         stays false = refl
+
+-- of pages that rise, none before a place is the one that is there
+pub not_among : (page place : ℕ) (ks : List ℕ) → ((i : ℕ) → i < place → i < length ks → get_or ks i page < page) → is_among page (take place ks) ≡ false
+not_among page zero ks below = refl
+not_among page (suc place) [] below = refl
+not_among page (suc place) (k ∷ ks) below =
+    let less : k < page = below 0 (omega arith) (omega arith) in
+    let other : k == page ≡ false = grind (arith, nat_tests) in
+    rw other (not_among page place ks (λ i before within. below (suc i) (omega (arith, before)) (omega (arith, within))))
+
+-- a page that is not among those written has the row that it had
+pub page_before : (u : Tables) (customer : List ℕ) (number : ℕ) (s t : Storage) (ks : List ℕ) (page : ℕ) (bytes : List ℕ) → is_among page ks ≡ false → page < page_count s → bytes ≡ page_bytes s page
+    → (with_pages customer number (mixed s t ks) u).pages customer number page ≡ unless_blank (Some bytes)
+page_before u customer number s t ks page bytes out less is =
+    ap (λ (p : Pages). p page) (at_job_here customer number (mixed s t ks) u.pages)
+    ∙ ap (λ b. if b then rows_of t page else rows_of s page) out
+    ∙ page_row_is s page less
+    ∙ ap (λ b. unless_blank (Some b)) (sym is)
 
 pub page_put : (there : Beside) (version : ℕ) (db : Database) (u : Tables) (customer : List ℕ) (number : ℕ) (s t : Storage) (ks more : List ℕ) (page : ℕ) (bytes : List ℕ) → more ≡ ks ++ page ∷ [] → page < page_count t → bytes ≡ page_bytes t page
     → HoldsAs there version db (with_page customer number page (unless_blank (Some bytes)) (with_pages customer number (mixed s t ks) u)) → HoldsAs there version db (with_pages customer number (mixed s t more) u)
@@ -145,7 +164,10 @@ blank_rows n = fun_ext (λ k. go k (nat_lt k (page_count (blank_storage n))) ref
 
 -- ---- what planes hold
 
-pub joined_length : (codes marks : List ℕ) → length codes ≡ length marks → length (joined_planes codes marks) ≡ length codes
+joined_length : (codes marks : List ℕ) → length codes ≡ length marks → length (joined_planes codes marks) ≡ length codes
 joined_length [] marks even = refl
 joined_length (code ∷ codes) [] even = absurd (omega (arith, even))
 joined_length (code ∷ codes) (mark ∷ marks) even = ap (λ n. suc n) (joined_length codes marks (omega (arith, even)))
+
+pub planes_fit : (core : PlaneCore) → length (cells_of core) ≤ largest_size
+planes_fit core = omega (arith, joined_length core.codes.items core.marks.items core.even, core.limit)

@@ -14,7 +14,7 @@ use Rattle.core_store.specs.Storage.{Storage}
 use Rattle.ledger_rows.specs.Columns.{line_cells, profile_row, state_row, truth}
 use Rattle.ledger_rows.specs.Pages.{rows_of}
 use Rattle.ledger_rows.specs.Pockets.{pocket_cell, pocket_rows_of, punched_bytes}
-use Rattle.ledger_tables.specs.Cells.{JobCells, no_pages}
+use Rattle.ledger_tables.specs.Cells.{JobCells, no_pages, unless_blank}
 use Rattle.ledger_tables.specs.Named.{of_job, with_chosen_of, with_new_job, with_profile_of, with_state_of, HasNoProfile, HasNoState, HasState}
 use Rattle.ledger_tables.specs.Tables.{Tables, with_stretches, with_pages, with_cards, with_lines, with_pocket, with_pockets}
 use Rattle.texts.specs.declared.names.JobName.{JobName}
@@ -95,6 +95,10 @@ HasNoPages name t = of_job name t.pages ≡ no_pages
 -- the job's page rows are those of this storage
 abbrev pub HasPages : JobName → Storage → Tables → Type 0
 HasPages name s t = of_job name t.pages ≡ rows_of s
+
+-- the page's row is that of these bytes, or there is none if they are blank
+abbrev pub HasPageOf : JobName → ℕ → List ℕ → Tables → Type 0
+HasPageOf name page bytes t = of_job name t.pages page ≡ unless_blank (Some bytes)
 
 -- the tables with the rows of this storage's pages as the job's
 abbrev pub with_storage : JobName → Storage → Tables → Tables

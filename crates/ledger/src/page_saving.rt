@@ -1,6 +1,6 @@
 //! Writing the pages of a job's storage.
 
-ghost use Rattle.std.specs.Prelude.{◌≡◌, Some, length, IfOk, ⊤};
+ghost use Rattle.std.specs.Prelude.{◌≡◌, Some, length, IfOk};
 ghost use Rattle.core_store.specs.{Pages.{cells_of}, Storage.{blank_storage}};
 ghost use Rattle.machine.specs.Ranges.{HasSize};
 ghost use Rattle.ledger_tables.specs.{
@@ -8,7 +8,7 @@ ghost use Rattle.ledger_tables.specs.{
   Cells.{unless_blank},
   Steps.{ChangesAny, IsStep},
 };
-ghost use Rattle.ledger.specs.Saving.{HasNoPages, HasPages, with_storage};
+ghost use Rattle.ledger.specs.Saving.{HasNoPages, HasPageOf, HasPages, with_storage};
 
 use core_store::{Core, PlaneCore, Size, changed_pages};
 use ledger_rows::{is_blank_page, page_bytes};
@@ -17,21 +17,25 @@ use sqlite::Alter;
 use std::alloc::{AllocError, Global};
 use texts::JobName;
 
-/// Writes a page: its row, or none if it is blank.
+/// Writes a page that had the earlier bytes: its row, or none if it is blank.
 fn write_page<S: Alter>(
     tables: &mut OpenTables<'_, '_, S>,
     name: JobName<'_>,
     page: u32,
+    earlier: &[u8; 100],
     bytes: &[u8; 100],
 ) -> Result<(), Fault>
     ensures step { IsStep S.Store tables.old tables.new result }
     ensures written { ChangesAny S.Store tables.old tables.new result
-        (λ t. ⊤) (with_page_of name.entry page (unless_blank (Some bytes.now))) }
+        (HasPageOf name.entry page earlier.now)
+        (with_page_of name.entry page (unless_blank (Some bytes.now))) }
 {
     if is_blank_page(bytes) {
         tables.clear_page(name, page)
+    } else if is_blank_page(earlier) {
+        tables.insert_page(name, page, bytes)
     } else {
-        tables.put_page(name, page, bytes)
+        tables.replace_page(name, page, bytes)
     }
 }
 
@@ -50,8 +54,9 @@ pub fn save_pages<S: Alter>(
     let changed = changed_pages(tables.alloc, earlier, core)?;
     for place in 0..changed.len() {
         let page = changed[place];
+        let before = page_bytes(earlier, page);
         let bytes = page_bytes(core, page);
-        write_page(tables, name, u32::from(page), &bytes)?;
+        write_page(tables, name, u32::from(page), &before, &bytes)?;
     }
     Ok(())
 }

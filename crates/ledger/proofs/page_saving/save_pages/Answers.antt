@@ -1,4 +1,4 @@
-use Rattle.std.proofs.Common.{◌≡◌, ◌+◌, ◌/◌, ◌<◌, ◌∙◌, ◌++◌, [], ◌∷◌, ap, arith, length, subst, sym, take}
+use Rattle.std.proofs.Common.{◌≡◌, ◌+◌, ◌/◌, ◌<◌, ◌∙◌, ◌++◌, false, [], ◌∷◌, ap, arith, get_or, length, subst, sym, take}
 use Rattle.std.proofs.lemmas.List.{take_more, take_all}
 use Rattle.sqlite.specs.State.{HasCleanDisk}
 use Rattle.core_store.specs.Pages.{cells_of, page_count}
@@ -6,7 +6,7 @@ use Rattle.ledger_tables.specs.Cells.{Pages}
 use Rattle.ledger_tables.specs.Steps.{seen}
 use Rattle.ledger_tables.specs.Tables.{HoldsAs, with_pages}
 use Rattle.ledger_tables.proofs.Stepping.{step_still, step_then, step_ends}
-use Rattle.ledger.proofs.PageMixes.{joined_length, mixed, pages_still, page_put, all_put}
+use Rattle.ledger.proofs.PageMixes.{is_among, mixed, pages_still, not_among, page_before, page_put, all_put, planes_fit}
 use Rattle.ledger.proofs.page_saving.save_pages.Goals as goal
 
 pub loop-place-preserved : goal.loop-place-preserved
@@ -26,12 +26,15 @@ loop-place-preserved g c =
     let listed : page < page_count old = subst (λ k. k < page_count old) (sym c.index-page.ensures) (c.in_ok-changed.ensures.differ place page within).0 in
     let counts : page_count old ≡ page_count new = ap (λ n. n / 100) c.requires in
     let less : page < page_count new = omega (arith, listed, counts) in
+    let out : is_among page (take place changed) ≡ false = not_among page place changed (λ i before inside. subst (λ k. get_or changed i page < k) (sym c.index-page.ensures) (c.in_ok-changed.ensures.rise i place page before within)) in
     record {
       step = step_ends g.S.Store _ _ _ _ (step_then g.S.Store _ _ _ _ _ was.step did.step);
       saved = λ clean inside there version t holds has.
           let on = was.step.frame (early clean) inside in
           let before = was.saved (early clean) inside there version t holds has in
-          let after = rw c.from.ensures at (did.written clean on.inside there version (with_pages c.args.name.customer.now c.args.name.number (mixed old new (take place changed)) t) before tt) in
+          let had = page_before t c.args.name.customer.now c.args.name.number old new (take place changed) page _ out listed c.page_bytes-before.ensures in
+          let written = rw c.from.ensures at (did.written clean on.inside there version (with_pages c.args.name.customer.now c.args.name.number (mixed old new (take place changed)) t) before) in
+          let after = written had in
           page_put there version last.now t c.args.name.customer.now c.args.name.number old new (take place changed) (take (place + 1) changed) page _ more less c.page_bytes-bytes.ensures after;
     }
 
@@ -50,7 +53,8 @@ loop-place-init g c = record {
   saved = λ clean inside there version t holds has. pages_still there version _ t c.args.name.customer.now c.args.name.number _ holds has;
 }
 
+pub page_bytes-before-requires-clause-limit : goal.page_bytes-before-requires-clause-limit
+page_bytes-before-requires-clause-limit g c = planes_fit c.args.earlier.now
+
 pub page_bytes-bytes-requires-clause-limit : goal.page_bytes-bytes-requires-clause-limit
-page_bytes-bytes-requires-clause-limit g c =
-    let core = c.args.core.now in
-    omega (arith, joined_length core.codes.items core.marks.items core.even, core.limit)
+page_bytes-bytes-requires-clause-limit g c = planes_fit c.args.core.now
