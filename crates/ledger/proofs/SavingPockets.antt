@@ -1,5 +1,6 @@
--- The pockets of cards that are inserted after others.
-use Rattle.std.proofs.Common.{◌≡◌, ℕ, zero, ◌+◌, ◌<◌, ◌≤◌, ◌==◌, Bool, true, false, if◌then◌else◌, List, [], ◌∷◌, ◌++◌, length, length-append, take, slice_index_or, None, refl, sym, ap, subst, ◌∙◌, arith, append_assoc}
+-- The pockets of cards that are inserted after others, and the one chosen for the next card.
+use Rattle.std.proofs.Common.{◌≡◌, ℕ, zero, ◌+◌, ◌<◌, ◌≤◌, ◌==◌, Bool, true, false, if◌then◌else◌, List, [], ◌∷◌, ◌++◌, length, length-append, take, slice_index_or, Option, Some, None, refl, sym, ap, subst, ◌∙◌, arith, append_assoc}
+use Rattle.std.specs.Option.{option_map}
 use Rattle.std.proofs.Math.Path.{fun_ext}
 use Rattle.std.proofs.lemmas.Bool.Decides.{nat_tests}
 use Rattle.std.proofs.lemmas.List.{length-take-le, take_more}
@@ -8,7 +9,8 @@ use Rattle.units.specs.declared.pockets.Pocket.{Pocket}
 use Rattle.units.specs.declared.punch.Punched.{Punched}
 use Rattle.ledger_rows.specs.Pockets.{pocket_cell, pocket_rows_from, pocket_rows_of}
 use Rattle.ledger_tables.specs.Cells.{Pockets}
-use Rattle.ledger_tables.specs.Tables.{Tables, Holds, at_job, at_place, with_pocket, with_pockets}
+use Rattle.ledger_tables.specs.Tables.{Tables, Holds, at_job, at_place, choosing, with_chosen, with_pocket, with_pockets}
+use Rattle.ledger_tables.specs.declared.rows.ProfileRow.{ProfileRow}
 use Rattle.ledger.proofs.SavingLemmas.{at_job_again, at_job_here, at_job_same}
 
 -- no card before it has the next place
@@ -82,3 +84,14 @@ module _ (t : Tables) (customer : List ℕ) (number : ℕ) (earlier cards : List
 
       more : pocket_rows_of (earlier ++ take (i + 1) cards) ≡ at_place (before + i + 1) (pocket_cell c.pocket) (pocket_rows_of pushed)
       more = fun_ext (λ k. ap (λ xs. pocket_rows_of xs k) all ∙ one_behind 1 pushed c k ∙ ap (λ n. at_place n (pocket_cell c.pocket) (pocket_rows_of pushed) k) place)
+
+-- the pocket that is chosen already
+pub choice_stays : (db : Database) (t : Tables) (customer : List ℕ) (number chosen : ℕ) → option_map (λ (p : ProfileRow). p.chosen) (t.profiles customer number) ≡ Some chosen → Holds db t → Holds db (with_chosen customer number chosen t)
+choice_stays db t customer number chosen has holds =
+    subst (λ all. Holds db (record t { profiles = all })) (sym (at_job_same customer number (option_map (choosing chosen) (t.profiles customer number)) t.profiles (sym (same (t.profiles customer number) has)))) holds
+  where
+    same : (o : Option ProfileRow) → option_map (λ (p : ProfileRow). p.chosen) o ≡ Some chosen → option_map (choosing chosen) o ≡ o
+    same None is = refl
+    same (Some p) is =
+        let it : p.chosen ≡ chosen = cc in
+        ap (λ (n : ℕ). let q : Option ProfileRow = Some (record p { chosen = n }) in q) (sym it)

@@ -1,5 +1,6 @@
 -- what is written to the tables about a job
 use Rattle.std.specs.Prelude.{◌≡◌, ℕ, Bool, false, List, [], ◌∷◌, ◌++◌, map, length, Option, Some, None, Ok}
+use Rattle.std.specs.Option.{option_map}
 use Rattle.cards.specs.Decks.{deck_bytes}
 use Rattle.cards.specs.declared.decks.Card.{Card}
 use Rattle.machine.specs.Run.{State}
@@ -10,6 +11,7 @@ use Rattle.office.specs.Office.{Office, job_of, with_job, and_job}
 use Rattle.office.specs.declared.commands.Contents.{Contents}
 use Rattle.office.specs.declared.commands.JobCommand.{JobCommand}
 use Rattle.office.specs.declared.stretches.Stretch.{Stretch}
+use Rattle.core_store.specs.Pages.{cells_of}
 use Rattle.core_store.specs.Storage.{Storage}
 use Rattle.ledger_rows.specs.Columns.{line_cells, profile_row, state_row, truth}
 use Rattle.ledger_rows.specs.Pages.{rows_of}
@@ -24,6 +26,7 @@ use Rattle.units.specs.declared.pockets.Pocket.{Pocket}
 use Rattle.units.specs.declared.punch.Punched.{Punched}
 use Rattle.units.specs.declared.units.Units.{Units}
 use Rattle.ledger.specs.Earlier.{kept_alone, with_outputs_of, HasCounted}
+use Rattle.ledger.specs.declared.earlier_machine.EarlierMachine.{EarlierMachine}
 use Rattle.ledger.specs.Standing.{stretch_row}
 use Rattle.office.specs.Numbers.{kind_number}
 
@@ -109,6 +112,15 @@ pub record HasRows (name : JobName) (s : Storage) (t : Tables) : Type 0 where
   pub pages : HasPages name s t
   pub state : HasState name t
 
+-- the job's profile row has the pocket of this number as the one chosen for the next card
+abbrev pub HasChosen : JobName → ℕ → Tables → Type 0
+HasChosen name number t = option_map (λ p. p.chosen) (of_job name t.profiles) ≡ Some number
+
+-- the job's rows are those of a machine that had this storage and this choice, and it has a state
+pub record HasEarlierRows (name : JobName) (earlier : EarlierMachine) (t : Tables) : Type 0 where
+  pub rows : HasRows name (cells_of earlier.storage) t
+  pub chosen : HasChosen name (pocket_number earlier.chosen) t
+
 -- the tables with this machine as the job's, but for its storage
 abbrev pub with_running : JobName → State → Tables → Tables
 with_running name m = with_state_of name (state_row m)
@@ -183,11 +195,16 @@ pub record IsAfter (name : JobName) (kept : Kept) (c : JobCommand) (old : Job) (
   pub is : with_outputs_of old kept ≡ kept_of (changed_job c old)
   pub job : IsJob (changed_job c old)
 
--- the same, and this was the storage of the job's machine before
-pub record IsAfterStorage (name : JobName) (earlier : Storage) (kept : Kept) (c : JobCommand)
+-- this is what the machine has
+pub record IsEarlier (earlier : EarlierMachine) (m : State) : Type 0 where
+  pub storage : cells_of earlier.storage ≡ m.works.storage
+  pub chosen : earlier.chosen ≡ m.works.units.punch.chosen
+
+-- the job is after the command, and this is what its machine had before
+pub record IsAfterMachine (name : JobName) (earlier : EarlierMachine) (kept : Kept) (c : JobCommand)
     (old : Job) (office : Office) : Type 0 where
   pub after : IsAfter name kept c old office
-  pub storage : earlier ≡ (picture old).works.storage
+  pub earlier_is : IsEarlier earlier (picture old)
 
 -- the office with the job as a command that is not refused makes it
 abbrev pub with_after : JobName → JobCommand → Job → Office → Office

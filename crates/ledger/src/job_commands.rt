@@ -1,7 +1,6 @@
 //! Commands on a job.
 
 ghost use Rattle.std.specs.Prelude.{◌≡◌, true, Some, OnOk, OnErr};
-ghost use Rattle.core_store.specs.Pages.{cells_of};
 ghost use Rattle.machine.specs.Run.{risen};
 ghost use Rattle.office.specs.{
   Jobs.{Job as KnownJob},
@@ -11,14 +10,14 @@ ghost use Rattle.office.specs.{
 ghost use Rattle.ledger_tables.specs.Steps.{IsStep, IsOpenStep};
 ghost use Rattle.ledger.specs.{
   Earlier.{kept_alone},
-  Saving.{job_in},
+  Saving.{job_in, IsEarlier},
   Serving.{with_commanded, attempted_as},
   Steps.{FindsNoJob, FailsAlone, Serves, ServesWhere, Ticks, TicksAtMost},
 };
 
 use crate::by_summary::command_flags;
+use crate::earlier_machine::EarlierMachine;
 use crate::outputs::{tell_cards, tell_lines};
-use crate::page_saving::copy_of;
 use crate::reading::find_to_run;
 use crate::saving::save;
 use core_store::PlaneCore;
@@ -32,16 +31,16 @@ use sqlite::Alter;
 use texts::JobName;
 
 /// Carries out a slice or a start on a job that was found without its cards and lines, and whose
-/// machine has this storage, and saves the result.
+/// machine has what the earlier one has, and saves the result.
 fn take_and_save<S: Alter>(
     tables: &mut OpenTables<'_, '_, S>,
     name: JobName<'_>,
-    earlier: &PlaneCore,
+    earlier: &EarlierMachine,
     job: &mut Job<PlaneCore>,
     drive: Drive,
     meter: &mut Meter,
 ) -> Result<Reply, Fault>
-    requires { cells_of earlier.now ≡ job.old.machine.works.storage }
+    requires { IsEarlier earlier.now job.old.machine }
     ensures step { IsStep S.Store tables.old tables.new result }
     ensures done { (old : KnownJob) → job.old ≡ kept_alone old
         → ServesWhere S.Store tables.old tables.new result
@@ -86,8 +85,8 @@ fn carry_out<S: Alter>(
         (RisenAtMost (attempted_on (drive_command drive) job.old) meter.old meter.new) }
     ensures most { RisenAtMost (limit_of (drive_command drive)) meter.old meter.new }
 {
-    let machine = job.parts().machine;
-    let earlier = copy_of(tables.alloc, &machine.core)?;
+    let parts = job.parts();
+    let earlier = EarlierMachine::of(tables.alloc, parts.machine)?;
     take_and_save(tables, name, &earlier, job, drive, meter)
 }
 

@@ -2,7 +2,8 @@
 //!
 //! `office` defines jobs and the effect of commands on them. `reading` reads a job from the tables,
 //! without its cards and lines, `summaries` without its machine, and `outputs` what it has made;
-//! `saving` and `page_saving` write it; all of them through `ledger_tables` and `ledger_rows`.
+//! `saving` and `page_saving` write it, after a slice only where it is no longer as in
+//! `earlier_machine`; all of them through `ledger_tables` and `ledger_rows`.
 //! `submissions`, `job_commands`, `by_summary` and `lists` connect them to `office`. `bureau` puts
 //! each command into one transaction, whose commit is the last call of the store. `shifts` applies
 //! a list of commands up to the first fault. `migrating` raises the tables of an earlier version.
@@ -16,6 +17,7 @@
 
 mod bureau;
 mod by_summary;
+mod earlier_machine;
 mod job_commands;
 mod laws;
 mod lists;

@@ -14,14 +14,15 @@ ghost use Rattle.units.specs.{
 ghost use Rattle.core_store.specs.Pages.{cells_of};
 ghost use Rattle.ledger_rows.specs.{Columns.{HoldsCharacters, IsLine}, Pockets.{IsPunched}};
 ghost use Rattle.ledger_tables.specs.{
-  Named.{HasNoJob, HasNoPocket, HasNoProfile, HasNoState, HasState},
+  Named.{HasNoJob, HasNoPocket, HasNoProfile, HasNoState, HasState, with_chosen_of},
   Steps.{Changes, IsStep},
 };
 ghost use Rattle.ledger.specs.{
-  Saving.{job_in, HasCardRows, with_all_cards, HasPocketRows, with_card_pocket, with_all_pockets, with_choice, HasLineRows, with_all_lines, HasEarlier, with_made, HasFewerGranted, HasOneLess, with_all_stretches, with_running, with_machine, with_selection, with_progress, with_begun, HasRows, HasNoMachine, HasNotStarted, new_cells, with_handed, IsAfter, IsAfterStorage, with_after, with_flagged, IsFreeName, IsTakenAs, with_new},
+  Saving.{job_in, HasCardRows, with_all_cards, HasPocketRows, with_card_pocket, with_all_pockets, with_choice, HasLineRows, with_all_lines, HasEarlier, with_made, HasFewerGranted, HasOneLess, with_all_stretches, with_running, with_machine, with_selection, with_progress, with_begun, HasRows, HasChosen, HasEarlierRows, HasNoMachine, HasNotStarted, new_cells, with_handed, IsAfter, IsAfterMachine, with_after, with_flagged, IsFreeName, IsTakenAs, with_new},
   Steps.{Saves},
 };
 
+use crate::earlier_machine::EarlierMachine;
 use crate::page_saving::{insert_pages, save_pages};
 use cards::Deck;
 use core_store::PlaneCore;
@@ -192,24 +193,42 @@ fn set_machine<S: Alter>(
     set_state(tables, name, machine)
 }
 
+/// Sets the number of the pocket that is chosen for a job's next card, unless it was so before.
+fn set_choice<S: Alter>(
+    tables: &mut OpenTables<'_, '_, S>,
+    name: JobName<'_>,
+    earlier: u32,
+    chosen: u32,
+) -> Result<(), Fault>
+    ensures step { IsStep S.Store tables.old tables.new result }
+    ensures set { Changes S.Store tables.old tables.new result
+        (HasChosen name.entry earlier) (with_chosen_of name.entry chosen) }
+{
+    if chosen == earlier {
+        return Ok(());
+    }
+    tables.set_chosen(name, chosen)
+}
+
 /// Replaces the state of a job's machine, those of its pages that are no longer as they were, and
-/// the pocket that is chosen for its next card.
+/// the pocket that is chosen for its next card if it is no longer the same.
 fn set_running<S: Alter>(
     tables: &mut OpenTables<'_, '_, S>,
     name: JobName<'_>,
-    earlier: &PlaneCore,
+    earlier: &EarlierMachine,
     machine: &Parts<PlaneCore>,
 ) -> Result<(), Fault>
     requires range { IsInRange machine.now }
-    requires size { length (cells_of earlier.now) ≡ length machine.now.works.storage }
+    requires size { length (cells_of earlier.now.storage) ≡ length machine.now.works.storage }
     ensures step { IsStep S.Store tables.old tables.new result }
     ensures set { Changes S.Store tables.old tables.new result
-        (HasRows name.entry (cells_of earlier.now))
+        (HasEarlierRows name.entry earlier.now)
         (λ t. with_choice name.entry machine.now (with_machine name.entry machine.now t)) }
     ensures characters { OnOk result (HoldsCharacters machine.now.works.storage) }
 {
-    set_machine(tables, name, earlier, machine)?;
-    tables.set_chosen(name, machine.units.punch.chosen.number())
+    set_machine(tables, name, &earlier.storage, machine)?;
+    let chosen = machine.units.punch.chosen.number();
+    set_choice(tables, name, earlier.chosen.number(), chosen)
 }
 
 /// The place of the last stretch, and the stretch.
@@ -242,17 +261,17 @@ fn set_last_granted<S: Alter>(
     tables.set_granted(name, place, last.granted)
 }
 
-/// Saves a job's machine, whose storage was the earlier one, and what was granted.
+/// Saves a job's machine, of which this is what it had before, and what was granted.
 fn set_progress<S: Alter>(
     tables: &mut OpenTables<'_, '_, S>,
     name: JobName<'_>,
-    earlier: &PlaneCore,
+    earlier: &EarlierMachine,
     job: &Job<PlaneCore>,
 ) -> Result<(), Fault>
-    requires { length (cells_of earlier.now) ≡ length job.now.machine.works.storage }
+    requires { length (cells_of earlier.now.storage) ≡ length job.now.machine.works.storage }
     ensures step { IsStep S.Store tables.old tables.new result }
     ensures set { Changes S.Store tables.old tables.new result
-        (λ t. HasRows name.entry (cells_of earlier.now) t
+        (λ t. HasEarlierRows name.entry earlier.now t
         × HasFewerGranted name.entry job.now.stretches t)
         (with_progress name.entry job.now) }
     ensures characters { OnOk result (HoldsCharacters job.now.machine.works.storage) }
@@ -262,17 +281,17 @@ fn set_progress<S: Alter>(
     set_last_granted(tables, name, parts.stretches)
 }
 
-/// Saves a job after a slice, before which its machine had the earlier storage.
+/// Saves a job after a slice, before which its machine had what the earlier one has.
 fn save_slice<S: Alter>(
     tables: &mut OpenTables<'_, '_, S>,
     name: JobName<'_>,
-    earlier: &PlaneCore,
+    earlier: &EarlierMachine,
     job: &Job<PlaneCore>,
 ) -> Result<(), Fault>
-    requires { length (cells_of earlier.now) ≡ length job.now.machine.works.storage }
+    requires { length (cells_of earlier.now.storage) ≡ length job.now.machine.works.storage }
     ensures step { IsStep S.Store tables.old tables.new result }
     ensures saved { (limit : ℕ) (old : KnownJob) → Saves S.Store tables.old tables.new result
-        (IsAfterStorage name.entry (cells_of earlier.now) job.now (command.Slice limit) old)
+        (IsAfterMachine name.entry earlier.now job.now (command.Slice limit) old)
         (with_after name.entry (command.Slice limit) old) }
 {
     // A law, for the proof: it does nothing.
@@ -334,19 +353,19 @@ pub fn note_flags<S: Alter>(
     tables.set_flags(name, truth(held), truth(collected))
 }
 
-/// Saves a job after a slice or a start that was not refused, before which its machine had the
-/// earlier storage.
+/// Saves a job after a slice or a start that was not refused, before which its machine had what the
+/// earlier one has.
 pub fn save<S: Alter>(
     tables: &mut OpenTables<'_, '_, S>,
     name: JobName<'_>,
     drive: Drive,
-    earlier: &PlaneCore,
+    earlier: &EarlierMachine,
     job: &Job<PlaneCore>,
 ) -> Result<(), Fault>
-    requires { length (cells_of earlier.now) ≡ length job.now.machine.works.storage }
+    requires { length (cells_of earlier.now.storage) ≡ length job.now.machine.works.storage }
     ensures step { IsStep S.Store tables.old tables.new result }
     ensures saved { (old : KnownJob) → Saves S.Store tables.old tables.new result
-        (IsAfterStorage name.entry (cells_of earlier.now) job.now (drive_command drive) old)
+        (IsAfterMachine name.entry earlier.now job.now (drive_command drive) old)
         (with_after name.entry (drive_command drive) old) }
 {
     match drive {

@@ -1,6 +1,8 @@
 use Rattle.std.proofs.Common.{◌∙◌, ap, length, sym}
 use Rattle.ledger_tables.specs.Steps.{seen}
+use Rattle.office.specs.Jobs.{picture}
 use Rattle.office.specs.Kept.{Kept, kept_of, take_kept, drive_command}
+use Rattle.ledger.specs.Saving.{IsEarlier}
 use Rattle.ledger.proofs.EarlierLemmas.{same_reply, is_after, same_size}
 use Rattle.ledger.proofs.Offices.{job_is}
 use Rattle.ledger.proofs.Replies.{let_through, command_refused, command_done}
@@ -19,10 +21,10 @@ returns-in_ok-save-in_default-clause-done g c old alone clean inside office is s
     let none = let_through command (kept_of old) c.in_ok-reply.reply told (λ reason e. c.in_default.not-Refused reason e) in
     let made = c.in_ok-reply.ensures.job ∙ ap (λ (k : Kept). (take_kept command k).0) alone in
     let it = job_is c.args.name.customer.now c.args.name.number office old s.jobs is in
-    let storage = c.requires ∙ ap (λ (k : Kept). k.machine.works.storage) alone in
+    let earlier : IsEarlier c.args.earlier.now (picture old) = record { storage = c.requires.storage ∙ ap (λ (k : Kept). k.machine.works.storage) alone; chosen = c.requires.chosen ∙ ap (λ (k : Kept). k.machine.works.units.punch.chosen) alone } in
     let after = is_after old c.commands_act_on_pictures.ensures c.commands_keep_jobs.ensures.kept c.args.name c.args.drive c.take.new.self office is it.job made none in
-    command_done (seen g.S.Store c.save.new.tables) c.args.name.customer.now c.args.name.number command c.in_ok-reply.reply office old is told none (c.in_ok-save-in_default.ensures.saved old clean inside office s (record { after = after; storage = storage }))
+    command_done (seen g.S.Store c.save.new.tables) c.args.name.customer.now c.args.name.number command c.in_ok-reply.reply office old is told none (c.in_ok-save-in_default.ensures.saved old clean inside office s (record { after = after; earlier_is = earlier }))
 
 pub save-requires : goal.save-requires
 save-requires g c =
-    ap length c.requires ∙ sym (ap (λ (k : Kept). length k.machine.works.storage) c.in_ok-reply.ensures.job ∙ same_size c.runs_only_add.ensures.size c.args.drive c.args.job.now)
+    ap length c.requires.storage ∙ sym (ap (λ (k : Kept). length k.machine.works.storage) c.in_ok-reply.ensures.job ∙ same_size c.runs_only_add.ensures.size c.args.drive c.args.job.now)

@@ -9,12 +9,13 @@ use Rattle.ledger.proofs.saving.set_running.Goals as goal
 
 pub returns-clause-set : goal.returns-clause-set
 returns-clause-set g c clean inside =
-    let early : HasCleanDisk (seen g.S.Store c.set_machine.new.tables) = omega (arith, c.set_chosen.ensures.step.survives.clean) in
+    let early : HasCleanDisk (seen g.S.Store c.set_machine.new.tables) = omega (arith, c.set_choice.ensures.step.survives.clean) in
     let on = c.in_ok-set_machine.ensures.step.frame early inside in
-    let chosen : c.number.result ≡ pocket_number c.args.machine.now.works.units.punch.chosen = search rules in
+    let chosen : c.number-chosen.result ≡ pocket_number c.args.machine.now.works.units.punch.chosen = search rules in
+    let before : c.number.result ≡ pocket_number c.args.earlier.now.chosen = search rules in
     let did = c.in_ok-set_machine.ensures.set early inside in
-    let number = rw chosen at (c.set_chosen.ensures.set clean on.inside) in
-    on_ok_then c.set_chosen.result _ _ (λ more t holds has. more (with_machine c.args.name c.args.machine.now t) (did t holds (record { pages = has.pages; state = has.state })) tt) number
+    let choice = rw (chosen, before) at (c.set_choice.ensures.set clean on.inside) in
+    on_ok_then c.set_choice.result _ _ (λ more t holds has. more (with_machine c.args.name c.args.machine.now t) (did t holds has.rows) has.chosen) choice
 
 pub returns-clause-characters : goal.returns-clause-characters
-returns-clause-characters g c = on_any c.set_chosen.result _ c.in_ok-set_machine.ensures.characters
+returns-clause-characters g c = on_any c.set_choice.result _ c.in_ok-set_machine.ensures.characters
