@@ -1,10 +1,9 @@
 -- What the statements on the table of pages do.
-use Rattle.std.proofs.Common.{◌≡◌, ◌≢◌, ◌⊎◌, inl, inr, ℕ, ℤ, pos, List, [], ◌∷◌, ◌++◌, map, drop, filter, slice_get, cond, Bool, true, false, not, ◌&&◌, ◌==◌, bytes_eq, if◌then◌else◌, Option, Some, None, Ok, Less, Equal, refl, sym, ap, subst, ◌∙◌, arith, append-nil, true≢false}
+use Rattle.std.proofs.Common.{◌≡◌, ◌≢◌, ℕ, ℤ, pos, List, [], ◌∷◌, ◌++◌, map, drop, filter, slice_get, cond, Bool, true, false, not, ◌&&◌, ◌==◌, bytes_eq, if◌then◌else◌, Option, Some, None, Ok, Less, Equal, refl, sym, ap, subst, ◌∙◌, arith, append-nil, true≢false}
 use Rattle.std.specs.List.{AllByRecursion}
 use Rattle.std.specs.Option.{option_to_list}
 use Rattle.std.specs.List.Sorted.{IsPermutation}
 use Rattle.std.proofs.lemmas.List.Sorted.{length_permutation}
-use Rattle.std.proofs.Math.Path.{fun_ext}
 use Rattle.std.proofs.lemmas.Bool.{and_parts}
 use Rattle.std.proofs.lemmas.Bool.Decides.{nat_tests}
 use Rattle.std.proofs.lemmas.Cmp.{tied_itself}
@@ -38,7 +37,7 @@ use Rattle.ledger_tables.specs.Schema.{pages}
 use Rattle.ledger_tables.specs.Tables.{Beside, ByJob, Tables, HoldsAs, IsOfEach, IsOfPages, IsOne, at_job, at_page, at_place, cells, is_row_at, page_row, schema_beside, with_page, pictured, paged, profiled, complete}
 use Rattle.ledger_tables.proofs.InsertStatement.{Means, adds, apart, cast_int, cast_null, went, same_value}
 use Rattle.ledger_tables.proofs.InsertPlaces.{next_cells, next_shaped}
-use Rattle.ledger_tables.proofs.InsertLast.{still, still_profiles, still_shared, shared_with, name_is, name_yes, all_push}
+use Rattle.ledger_tables.proofs.InsertLast.{still, still_profiles, still_shared, shared_with, name_is, all_push}
 use Rattle.ledger_tables.proofs.LookupStatement.{passes, show, plain_query, plain_answer}
 use Rattle.ledger_tables.proofs.LookupKeys.{place_passes, kept_cells, each_test}
 use Rattle.ledger_tables.proofs.ReadTexts.{is_place, delete_pages, delete_pages_is}
@@ -344,30 +343,3 @@ module _ (customer : List ℕ) (number page : ℕ) (more : Row) where
       let did = deletes (schema_beside there) delete_pages (place_of_pages there) (record pages { tree = 13 }) is_place (col 1 0 ∷ []) (delete_pages_is there) (pages_there there) (idle_beside there 13) old new page_params count holds.schema h.0 in
       let some = plain_answer 13 is_place (col 1 0 ∷ []) page_params old.now.trees did.0 refl did.1.answer in
       pages_alone there version old.now new.now t _ holds did.2 did.5 did.4 (one_less old.now.trees new.now.trees t.pages did.0 holds.pages did.3 some)
-
--- ---- a page less, and then the page anew
-
-module _ (customer : List ℕ) (number page : ℕ) (t : Tables) where
-  own_job : (bytes_eq customer customer && (number == number)) ≡ true
-  own_job = name_yes customer customer number number refl refl
-
-  pub page_gone : (with_page customer number page None t).pages customer number page ≡ None
-  page_gone =
-      let same : page == page ≡ true = grind (arith, nat_tests) in
-      rw (own_job, same)
-
-  pub page_again : (here : Option (List ℕ)) → with_page customer number page here (with_page customer number page None t) ≡ with_page customer number page here t
-  page_again here = ap (λ (all : ByJob Pages). let u : Tables = record t { pages = all } in u) (fun_ext (λ c. fun_ext (λ n. fun_ext (λ k. go c n k (bytes_eq customer c && (number == n))))))
-    where
-      twice : (k : ℕ) (b : Bool) → (if b then here else at_page page None (t.pages customer number) k) ≡ (if b then here else t.pages customer number k) ⊎ (page == k ≡ b → (if b then here else at_page page None (t.pages customer number) k) ≡ (if b then here else t.pages customer number k))
-      twice k true = inl refl
-      twice k false = inr (λ is. rw is refl)
-
-      once : (k : ℕ) → at_page page here (at_page page None (t.pages customer number)) k ≡ at_page page here (t.pages customer number) k
-      once k = elim (twice k (page == k)) [ inl same ↦ same | inr told ↦ told refl ]
-
-      go : (c : List ℕ) (n k : ℕ) (b : Bool)
-          → (if b then at_page page here (at_job customer number (at_page page None (t.pages customer number)) t.pages customer number) else (if b then at_page page None (t.pages customer number) else t.pages c n)) k
-          ≡ (if b then at_page page here (t.pages customer number) else t.pages c n) k
-      go c n k true = rw own_job (once k)
-      go c n k false = refl

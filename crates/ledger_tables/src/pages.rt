@@ -54,16 +54,6 @@ impl<S: Alter> OpenTables<'_, '_, S> {
         )
     }
 
-    /// Sets the row of a page, whether it has one or not.
-    pub fn put_page(&mut self, name: JobName<'_>, page: u32, storage: &[u8]) -> Result<(), Fault>
-        ensures step { IsStep S.Store self.old self.new result }
-        ensures put { ChangesAny S.Store self.old self.new result
-            (λ t. ⊤) (with_page_of name.entry page (Some storage.now)) }
-    {
-        self.clear_page(name, page)?;
-        self.insert_page(name, page, storage)
-    }
-
     /// The rows of a job's pages, in any order.
     pub fn find_pages(&mut self, name: JobName<'_>) -> Result<Vec<PageRow>, Fault>
         ensures step { IsOpenStep S.Store self.old self.new result }
