@@ -1,10 +1,9 @@
 //! Closing a bureau's file, or a connection to it.
 
-ghost use Rattle.std.specs.Prelude.{◌≤◌, ℕ, IsTrue, IfOk, IfErr};
+ghost use Rattle.std.specs.Prelude.{◌≡◌, ◌≤◌, ℕ, IfOk, IfErr};
 ghost use Rattle.sqlite.specs.{
   FileStore.{recovers, view},
   Files.{file_state},
-  Held.{state},
   Recovery.{Image},
   State.{HasCleanDisk},
   Tree.{Trees},
@@ -13,7 +12,7 @@ ghost use Rattle.sqlite.specs.{
 };
 ghost use Rattle.sqlite_wal.specs.Reads.{AreClean};
 ghost use Rattle.office.specs.Office.{Office};
-ghost use Rattle.ledger.specs.Standing.{LeftAs, Stands};
+ghost use Rattle.ledger.specs.Standing.{Stands};
 ghost use Rattle.ledger_tables.specs.Versions.{IsKnown};
 ghost use Rattle.ledger_files.specs.{
   Closing.{HindersClosing, StandsAlone},
@@ -25,16 +24,19 @@ use crate::closed::Closed;
 use crate::opening::store_fault_of;
 use ledger::Bureau;
 use ledger_tables::OpenFault;
-use sqlite::{Alter, Connection, FileStore};
+use sqlite::{Connection, FileStore};
 use sqlite_disk::Disk;
 
-/// Proves that the last commit of an open connection represents the office that the connection
-/// represents. It is called only for its clause.
-fn committed_stands<S: Alter>(conn: &Connection<S>)
-    ensures { IsTrue (state S.Store conn.now).is_open → (office : Office)
-        → Stands (state S.Store conn.now) office
-        → LeftAs (state S.Store conn.now).committed.trees office }
-{}
+/// The connection of a bureau in files.
+// What names a store in files and calls a function over any store is dear to prove: so others call
+// this.
+pub(crate) fn connection_of<D: Disk + Drop>(
+    bureau: Bureau<FileStore<D>>,
+) -> Connection<FileStore<D>>
+    ensures { result ≡ bureau.conn }
+{
+    bureau.into_connection()
+}
 
 /// Closes a connection: everything in the log is copied into its file. Returns both files, still
 /// locked: from now on the file alone is the database, whatever a crash leaves, and the log may be
@@ -57,7 +59,6 @@ pub fn close_connection<D: Disk + Drop>(
     ensures cause { IfErr result (λ e. IsClean (view e.1) → HindersClosing conn e.1 e.0) }
     ensures known { IfErr result (λ e. IsKnown e.0) }
 {
-    committed_stands(&conn);
     match conn.close_files() {
         Ok(files) => Ok(Closed { files }),
         Err((error, store)) => Err((store_fault_of(error), store)),
@@ -82,5 +83,5 @@ pub fn close<D: Disk + Drop>(
         ≤ doubt (view e.1).is_clean) }
     ensures cause { IfErr result (λ e. IsClean (view e.1) → HindersClosing bureau.conn e.1 e.0) }
 {
-    close_connection(bureau.into_connection())
+    close_connection(connection_of(bureau))
 }

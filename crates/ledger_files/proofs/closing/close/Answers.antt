@@ -16,20 +16,20 @@ use Rattle.ledger_files.proofs.closing.close.Goals as goal
 pub returns-clause-alone : goal.returns-clause-alone
 returns-clause-alone g c =
     subst (λ h. IfOk c.close_connection.result (λ closed. AreClean g.D.Disk closed.files.log closed.files.db → (office : Office) → Stands (file_state h) office → (left : Image) → outcomes g.D.Disk closed.files.log closed.files.db left → StandsAlone left office))
-    c.into_connection.ensures c.close_connection.ensures.alone
+    c.connection_of.ensures c.close_connection.ensures.alone
 
 pub returns-clause-clean : goal.returns-clause-clean
 returns-clause-clean g c =
-    subst (λ h. IfOk c.close_connection.result (λ closed. AreClean g.D.Disk closed.files.log closed.files.db → HasCleanDisk (file_state h))) c.into_connection.ensures c.close_connection.ensures.clean
+    subst (λ h. IfOk c.close_connection.result (λ closed. AreClean g.D.Disk closed.files.log closed.files.db → HasCleanDisk (file_state h))) c.connection_of.ensures c.close_connection.ensures.clean
 
 pub returns-clause-kept : goal.returns-clause-kept
 returns-clause-kept g c =
-    subst (λ h. IfErr c.close_connection.result (λ e. (db : Trees) → recovers e.1 db → (file_state h).may_leave db)) c.into_connection.ensures c.close_connection.ensures.kept
+    subst (λ h. IfErr c.close_connection.result (λ e. (db : Trees) → recovers e.1 db → (file_state h).may_leave db)) c.connection_of.ensures c.close_connection.ensures.kept
 
 pub returns-clause-clean_still : goal.returns-clause-clean_still
 returns-clause-clean_still g c =
-    subst (λ h. IfErr c.close_connection.result (λ e. doubt (file_state h).is_clean ≤ doubt (view e.1).is_clean)) c.into_connection.ensures c.close_connection.ensures.clean_still
+    subst (λ h. IfErr c.close_connection.result (λ e. doubt (file_state h).is_clean ≤ doubt (view e.1).is_clean)) c.connection_of.ensures c.close_connection.ensures.clean_still
 
 pub returns-clause-cause : goal.returns-clause-cause
 returns-clause-cause g c =
-    subst (λ h. IfErr c.close_connection.result (λ e. IsClean (view e.1) → HindersClosing h e.1 e.0)) c.into_connection.ensures c.close_connection.ensures.cause
+    subst (λ h. IfErr c.close_connection.result (λ e. IsClean (view e.1) → HindersClosing h e.1 e.0)) c.connection_of.ensures c.close_connection.ensures.cause

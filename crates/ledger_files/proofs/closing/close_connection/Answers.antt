@@ -1,5 +1,6 @@
 use Rattle.std.proofs.Common.{[]}
 use Rattle.std.proofs.Math.Logic.{∥∥₁_elim, ∥∥₁_map}
+use Rattle.sqlite_store.specs.Laws.{stays_at}
 use Rattle.sqlite.specs.Closing.{HoldsAlone}
 use Rattle.sqlite.specs.Recovery.{Image}
 use Rattle.sqlite.specs.Tree.{Trees}
@@ -12,7 +13,7 @@ use Rattle.ledger_files.proofs.closing.close_connection.Goals as goal
 pub returns-in-Ok-clause-alone : goal.returns-in-Ok-clause-alone
 returns-in-Ok-clause-alone g c clean office s left may =
     let copied = c.in-Ok.ensures.copied clean in
-    let kept = c.committed_stands.ensures copied.was_open office s in
+    let kept = s.left _ (stays_at c.args.conn.store g.met.D.Disk.seen_may_stay copied.was_open) in
     let held = copied.left left may in
     ∥∥₁_elim held.both squash₁ (λ both. ∥∥₁_map held.alone (λ alone. let r : (db : Trees) × HoldsDatabase left db × HoldsDatabase (record left { log = [] }) db × LeftAs db office = (_, both, alone, kept) in r))
 
