@@ -3,12 +3,10 @@
 ghost use Rattle.std.specs.Prelude.{IsTrue, OnOk};
 
 use crate::copy_faults::CopyFault;
-use crate::kept::Kept;
-use crate::new_files::{check_name, close_new, end, reserve};
-use crate::opening::open_from;
+use crate::new_files::{check_name, close_new, end, open_part, release_part, reserve};
 use crate::places::{Part, Place};
 use crate::sources::Source;
-use sqlite::{Alter, Connection, Leftover, Unknown};
+use sqlite::{Alter, Connection};
 
 /// The comparison of a copy with its file, whatever the stores are. It keeps what it has found.
 pub trait Comparison {
@@ -46,9 +44,9 @@ fn settle(rt: &HostRuntime, part: &Place) -> Result<(), CopyFault> {
     if part.log_length(rt).is_none() {
         return Ok(());
     }
-    match open_from(rt, &part.file, Unknown) {
-        Ok(bureau) => close_new(rt, part, bureau.into_connection()),
-        Err((fault, _kept)) => Err(CopyFault::Unread(fault)),
+    match open_part(rt, part) {
+        Ok(copy) => close_new(rt, part, copy),
+        Err(fault) => Err(fault),
     }
 }
 
@@ -60,13 +58,13 @@ pub(crate) fn read_back<S: Alter + Drop, C: Comparison>(
     part: &Place,
     comparison: &mut C,
 ) -> (Result<(), CopyFault>, S) {
-    match open_from(rt, &part.file, Unknown) {
-        Ok(bureau) => {
-            let (store, copy) = comparison.compare(file, bureau.into_connection());
-            part.restore_log(rt, &Kept::Left(Leftover::Store(copy)), None);
+    match open_part(rt, part) {
+        Ok(copy) => {
+            let (store, copy) = comparison.compare(file, copy);
+            release_part(rt, part, copy);
             (Ok(()), store)
         }
-        Err((fault, _kept)) => (Err(CopyFault::Unread(fault)), file.into_store()),
+        Err(fault) => (Err(fault), file.into_store()),
     }
 }
 
@@ -119,8 +117,7 @@ pub fn copy<C: Comparison>(
 {
     check_name(rt, new)?;
     match Source::open(rt, path) {
-        Ok((source, bureau)) => {
-            let file = bureau.into_connection();
+        Ok((source, file)) => {
             let (copied, store) = make_copy(rt, &source, file, new, comparison);
             source.release(rt, store);
             copied

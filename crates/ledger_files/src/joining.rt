@@ -6,11 +6,10 @@ ghost use Rattle.sqlite.specs.{Held.{state}, State.{HasCleanDisk}, Tree.{Trees}}
 use crate::copy_faults::CopyFault;
 use crate::kept::Kept;
 use crate::making::open_new;
-use crate::new_files::{check_name, close_new, end, reserve};
-use crate::opening::open_from;
+use crate::new_files::{check_name, close_new, end, open_part, release_part, reserve};
 use crate::places::{Part, Place, are_one_file};
 use crate::sources::Source;
-use sqlite::{Alter, Connection, Leftover, Unknown};
+use sqlite::{Alter, Connection, Unknown};
 use std::alloc::Global;
 
 /// The filling of a new bureau with the jobs of two others, and its comparison with these, whatever
@@ -48,6 +47,21 @@ pub trait Joining {
         ensures { IsTrue result → found_joined self.now };
 }
 
+/// Fills a new bureau, and hands it on if that is done.
+// It is over any store, so that `fill_part`, which names a store in files, makes one call only.
+fn filled<S: Alter, T: Alter, U: Alter + Drop, J: Joining>(
+    alloc: Global,
+    first: &mut Connection<S>,
+    second: &mut Connection<T>,
+    mut new: Connection<U>,
+    joining: &mut J,
+) -> Option<Connection<U>> {
+    if joining.fill(alloc, first, second, &mut new) {
+        return Some(new);
+    }
+    None
+}
+
 /// Makes a bureau in an empty file, fills it and closes it, so that all of it is in this one file.
 fn fill_part<S: Alter, T: Alter, J: Joining>(
     rt: &HostRuntime,
@@ -56,14 +70,14 @@ fn fill_part<S: Alter, T: Alter, J: Joining>(
     part: &Place,
     joining: &mut J,
 ) -> Result<(), CopyFault> {
-    let mut new = match open_new(rt, &part.file, Unknown) {
-        Ok(conn) => conn,
+    let new = match open_new(rt, &part.file, Unknown) {
+        Ok(new) => new,
         Err(fault) => return Err(CopyFault::Copy(fault)),
     };
-    if !joining.fill(rt.alloc(), first, second, &mut new) {
-        return Err(CopyFault::NotFilled);
+    match filled(rt.alloc(), first, second, new, joining) {
+        Some(new) => close_new(rt, part, new),
+        None => Err(CopyFault::NotFilled),
     }
-    close_new(rt, part, new)
 }
 
 /// Compares a new file with the two, which are open. The log that an open of the new file makes is
@@ -75,17 +89,13 @@ fn read_joined<S: Alter + Drop, T: Alter + Drop, J: Joining>(
     part: &Place,
     joining: &mut J,
 ) -> (Result<(), CopyFault>, S, T) {
-    match open_from(rt, &part.file, Unknown) {
-        Ok(bureau) => {
-            let (store, other, joined) = joining.compare(first, second, bureau.into_connection());
-            part.restore_log(rt, &Kept::Left(Leftover::Store(joined)), None);
+    match open_part(rt, part) {
+        Ok(joined) => {
+            let (store, other, joined) = joining.compare(first, second, joined);
+            release_part(rt, part, joined);
             (Ok(()), store, other)
         }
-        Err((fault, _kept)) => (
-            Err(CopyFault::Unread(fault)),
-            first.into_store(),
-            second.into_store(),
-        ),
+        Err(fault) => (Err(fault), first.into_store(), second.into_store()),
     }
 }
 
@@ -136,27 +146,6 @@ fn make_join<S: Alter + Drop, T: Alter + Drop, J: Joining>(
     (end(rt, part, new, made, is_joined), store, other)
 }
 
-/// Joins a bureau's file, which is open, and the one at a path. Hands the store of the first back.
-fn join_with<S: Alter + Drop, J: Joining>(
-    rt: &HostRuntime,
-    first: (&Source, Connection<S>),
-    second: &str,
-    new: &str,
-    joining: &mut J,
-) -> (Result<u64, CopyFault>, S)
-    ensures { OnOk result.0 (J.found_joined joining.new) }
-{
-    match Source::open(rt, second) {
-        Ok((source, bureau)) => {
-            let other = (&source, bureau.into_connection());
-            let (joined, store, other) = make_join(rt, first, other, new, joining);
-            source.release(rt, other);
-            (joined, store)
-        }
-        Err(fault) => (Err(CopyFault::Second(fault)), first.1.into_store()),
-    }
-}
-
 /// Makes a new bureau's file at a path, with the jobs of the two bureaus whose files are at two
 /// other paths. Returns how many bytes it has. It is made under another name beside its path,
 /// filled, closed, opened again and compared, and gets its name only if it is found to be what the
@@ -175,13 +164,26 @@ pub fn join<J: Joining>(
     if are_one_file(rt, first, second) {
         return Err(CopyFault::OneFile);
     }
-    match Source::open(rt, first) {
-        Ok((source, bureau)) => {
-            let file = (&source, bureau.into_connection());
-            let (joined, store) = join_with(rt, file, second, new, joining);
-            source.release(rt, store);
-            joined
+    let (first, file) = match Source::open(rt, first) {
+        Ok(opened) => opened,
+        Err(fault) => return Err(CopyFault::File(fault)),
+    };
+    match Source::open(rt, second) {
+        Ok((second, other)) => {
+            let (made, store, other) = make_join(
+                rt,
+                (&first, file),
+                (&second, other),
+                new,
+                joining,
+            );
+            second.release(rt, other);
+            first.release(rt, store);
+            made
         }
-        Err(fault) => Err(CopyFault::File(fault)),
+        Err(fault) => {
+            first.release_kept(rt, Kept::Connection(file));
+            Err(CopyFault::Second(fault))
+        }
     }
 }

@@ -44,11 +44,8 @@ impl<D: Disk + Drop> Kept<D> {
 }
 
 impl<D: Disk + Drop> Drop for Kept<D> {
+    // A connection is let go of by `leave`, which is dear to prove, so here it is called.
     fn drop(self) {
-        match self {
-            Kept::Connection(_conn) => {}
-            Kept::Left(_left) => {}
-            Kept::Nothing => {}
-        }
+        let _left = self.leave();
     }
 }

@@ -5,6 +5,7 @@ ghost use Rattle.sqlite.specs.{Held.{state}, Tree.{Trees}, View.{IsClean}};
 ghost use Rattle.office.specs.Office.{Office};
 ghost use Rattle.ledger.specs.Standing.{LeftAs, Stands};
 
+use crate::kept::Kept;
 use crate::sources::Source;
 use ledger_tables::OpenFault;
 use sqlite::{Alter, Connection};
@@ -31,8 +32,8 @@ pub fn look_into<L: Look>(rt: &HostRuntime, path: &str, look_at: &mut L) -> Resu
     ensures idle { OnErr result (look_at.new ≡ look_at.old) }
 {
     match Source::open(rt, path) {
-        Ok((source, bureau)) => {
-            let store = look_at.look(rt.alloc(), bureau.into_connection());
+        Ok((source, conn)) => {
+            let store = look_at.look(rt.alloc(), conn);
             source.release(rt, store);
             Ok(())
         }
@@ -44,8 +45,8 @@ pub fn look_into<L: Look>(rt: &HostRuntime, path: &str, look_at: &mut L) -> Resu
 /// and its log are after it what they were.
 pub fn find_fault(rt: &HostRuntime, path: &str) -> Option<OpenFault> {
     match Source::open(rt, path) {
-        Ok((source, bureau)) => {
-            source.release(rt, bureau.into_connection().into_store());
+        Ok((source, conn)) => {
+            source.release_kept(rt, Kept::Connection(conn));
             None
         }
         Err(fault) => Some(fault),

@@ -22,19 +22,17 @@ use std::alloc::Global;
 use std::fs;
 
 /// Makes the tables of a bureau without jobs over a connection that was just opened.
-fn created<S: Alter + Drop>(
-    alloc: Global,
-    conn: Connection<S>,
-) -> Result<Connection<S>, (OpenFault, Connection<S>)>
+// It is over any store, so that `open_new`, which names a store in files, makes one call only.
+fn created<S: Alter + Drop>(alloc: Global, conn: Connection<S>) -> Result<Connection<S>, OpenFault>
     ensures made { IfOk result (λ made. HasCleanDisk (state S.Store made)
         → Opens (state S.Store conn) → IsLive (state S.Store conn)
         → IsWithoutTables (state S.Store conn).committed.trees → Stands (state S.Store made) []) }
     ensures clean { IfOk result (λ made. StaysClean S.Store conn made) }
-    ensures known { IfErr result (λ e. IsKnown e.0) }
+    ensures known { IfErr result IsKnown }
 {
     match Bureau::create(alloc, conn) {
         Ok(bureau) => Ok(bureau.into_connection()),
-        Err((fault, conn)) => Err((OpenFault::from(fault), conn)),
+        Err((fault, _conn)) => Err(OpenFault::from(fault)),
     }
 }
 
@@ -54,7 +52,7 @@ pub(crate) fn open_new<S: Start>(
     };
     match created(rt.alloc(), conn) {
         Ok(conn) => Ok(conn),
-        Err((fault, _conn)) => Err(fault),
+        Err(fault) => Err(fault),
     }
 }
 

@@ -5,11 +5,13 @@ ghost use Rattle.std.specs.Prelude.{IsTrue, OnOk};
 
 use crate::closing::close_connection;
 use crate::copy_faults::CopyFault;
+use crate::kept::Kept;
 use crate::making::is_place_free;
+use crate::opening::open_connection;
 use crate::places::{Part, Place, sync, sync_folder_of};
 use ledger_tables::OpenFault;
-use sqlite::{Connection, FileStore};
-use sqlite_disk::Disk;
+use sqlite::{Connection, FileStore, Leftover};
+use sqlite_std_file::File;
 use std::fs;
 
 /// Whether a name is that of a log or a journal of another file.
@@ -42,11 +44,27 @@ pub(crate) fn reserve(rt: &HostRuntime, new: &str, mode: u32) -> Result<Part, Co
     }
 }
 
-/// Closes a new file, so that all of it is in this one file.
-pub(crate) fn close_new<D: Disk + Drop>(
+/// Opens a new file, as a bureau's.
+pub(crate) fn open_part(
     rt: &HostRuntime,
     part: &Place,
-    conn: Connection<FileStore<D>>,
+) -> Result<Connection<FileStore<File>>, CopyFault> {
+    match open_connection(rt, &part.file) {
+        Ok(conn) => Ok(conn),
+        Err((fault, _kept)) => Err(CopyFault::Unread(fault)),
+    }
+}
+
+/// Lets a new file go that was opened and not written to. The log that the open made is removed.
+pub(crate) fn release_part(rt: &HostRuntime, part: &Place, store: FileStore<File>) {
+    part.restore_log(rt, &Kept::Left(Leftover::Store(store)), None);
+}
+
+/// Closes a new file, so that all of it is in this one file.
+pub(crate) fn close_new(
+    rt: &HostRuntime,
+    part: &Place,
+    conn: Connection<FileStore<File>>,
 ) -> Result<(), CopyFault> {
     match close_connection(conn) {
         Ok(closed) => {

@@ -20,11 +20,13 @@ ghost use Rattle.ledger_files.specs.{
   Opening.{AreOf, AreRefused, HoldsOnly, IsAnswerFor, IsCleanKept, IsToldOpen, kept_of, store_fault},
 };
 
+use crate::closing::connection_of;
 use crate::connecting::connect;
 use crate::kept::Kept;
 use ledger::Bureau;
 use ledger_tables::OpenFault;
-use sqlite::{Alter, Connection, Error, ErrorCode, FileFrom, FileStore, Leftover, Start};
+use sqlite::{Alter, Connection, Error, ErrorCode, FileFrom, FileStore, Leftover, Start, Unknown};
+use sqlite_std_file::File;
 use std::alloc::Global;
 
 /// Proves that a connection that was just opened represents the office of its trees, and that a
@@ -122,5 +124,16 @@ pub fn open_from<S: Start>(
     match adopted(rt.alloc(), conn) {
         Ok(bureau) => Ok(bureau),
         Err((fault, conn)) => Err((fault, Kept::Connection(conn))),
+    }
+}
+
+/// Opens the file at a path as [`open_from`] does, for one who wants its connection alone.
+pub(crate) fn open_connection(
+    rt: &HostRuntime,
+    path: &str,
+) -> Result<Connection<FileStore<File>>, (OpenFault, Kept<File>)> {
+    match open_from(rt, path, Unknown) {
+        Ok(bureau) => Ok(connection_of(bureau)),
+        Err((fault, kept)) => Err((fault, kept)),
     }
 }

@@ -26,6 +26,20 @@ pub trait Filling {
             → (state S.Store file.new).may_leave db → (state S.Store file.old).may_leave db };
 }
 
+/// Fills a new bureau, and hands it on if that is done.
+// It is over any store, so that `fill_part`, which names a store in files, makes one call only.
+fn filled<S: Alter, T: Alter + Drop, P: Filling>(
+    alloc: Global,
+    file: &mut Connection<S>,
+    mut new: Connection<T>,
+    parting: &mut P,
+) -> Option<Connection<T>> {
+    if parting.fill(alloc, file, &mut new) {
+        return Some(new);
+    }
+    None
+}
+
 /// Makes a bureau in an empty file, fills it and closes it, so that all of it is in this one file.
 fn fill_part<S: Alter, P: Filling>(
     rt: &HostRuntime,
@@ -33,14 +47,14 @@ fn fill_part<S: Alter, P: Filling>(
     part: &Place,
     parting: &mut P,
 ) -> Result<(), CopyFault> {
-    let mut new = match open_new(rt, &part.file, Unknown) {
-        Ok(conn) => conn,
+    let new = match open_new(rt, &part.file, Unknown) {
+        Ok(new) => new,
         Err(fault) => return Err(CopyFault::Copy(fault)),
     };
-    if !parting.fill(rt.alloc(), file, &mut new) {
-        return Err(CopyFault::NotFilled);
+    match filled(rt.alloc(), file, new, parting) {
+        Some(new) => close_new(rt, part, new),
+        None => Err(CopyFault::NotFilled),
     }
-    close_new(rt, part, new)
 }
 
 /// Makes the file of a part, and compares it with the file, which is open. Hands the file's store
@@ -99,8 +113,7 @@ pub fn part<P: Filling + Comparison>(
 {
     check_name(rt, new)?;
     match Source::open(rt, path) {
-        Ok((source, bureau)) => {
-            let file = bureau.into_connection();
+        Ok((source, file)) => {
             let (parted, store) = make_part(rt, &source, file, new, parting);
             source.release(rt, store);
             parted

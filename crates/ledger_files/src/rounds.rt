@@ -28,7 +28,7 @@ ghost use Rattle.ledger_files.specs.{
 };
 
 use crate::closed::Closed;
-use crate::closing::close;
+use crate::closing::{close, connection_of};
 use crate::kept::Kept;
 use crate::opening::open_from;
 use crate::working::Work;
@@ -91,7 +91,7 @@ pub fn stop<D: Disk + Drop>(bureau: Bureau<FileStore<D>>) -> FileStore<D>
     ensures kept { (db : Trees) → recovers result db → (file_state bureau.conn).may_leave db }
     ensures clean { doubt (file_state bureau.conn).is_clean ≤ doubt (view result).is_clean }
 {
-    leave(bureau.into_connection())
+    leave(connection_of(bureau))
 }
 
 /// Ends the work with a bureau: its file is closed, so that it alone is the bureau. The file of a

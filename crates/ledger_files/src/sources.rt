@@ -1,14 +1,15 @@
 //! A bureau's file that is looked into, or that something is made of.
 
+ghost use Rattle.ledger_files.specs.Places.{AreLocked};
+
 use crate::copy_faults::CopyFault;
 use crate::kept::Kept;
-use crate::opening::open_from;
+use crate::opening::open_connection;
 use crate::places::{Place, copy_bytes};
 use crate::working::let_go;
-use ledger::Bureau;
 use ledger_tables::OpenFault;
-use sqlite::{FileFrom, FileStore, Leftover, Unknown};
-use sqlite_disk::Disk;
+use sqlite::{Connection, FileStore, Leftover};
+use sqlite_std_file::File;
 use std::os::unix::fs::MetadataExt;
 use std::{fs, io};
 
@@ -32,15 +33,15 @@ impl Source {
     pub(crate) fn open(
         rt: &HostRuntime,
         path: &str,
-    ) -> Result<(Source, Bureau<FileStore<FileFrom<Unknown>>>), OpenFault> {
+    ) -> Result<(Source, Connection<FileStore<File>>), OpenFault> {
         let place = Place::find(rt, path)?;
         // Before the looks: where the log goes meanwhile, they make an empty one.
         let log = place.log_length(rt);
         if place.has_headless_log(rt) || place.has_torn_log(rt) {
             return Err(OpenFault::Store);
         }
-        match open_from(rt, &place.file, Unknown) {
-            Ok(bureau) => Ok((Source { place, log }, bureau)),
+        match open_connection(rt, &place.file) {
+            Ok(conn) => Ok((Source { place, log }, conn)),
             Err((fault, kept)) => {
                 drop(let_go(rt, kept, &place, log));
                 Err(fault)
@@ -66,8 +67,14 @@ impl Source {
     }
 
     /// Lets the file go. Its log becomes what it was while the file is still locked.
-    pub(crate) fn release<D: Disk + Drop>(self, rt: &HostRuntime, store: FileStore<D>) {
-        let kept = Kept::Left(Leftover::Store(store));
+    pub(crate) fn release(self, rt: &HostRuntime, store: FileStore<File>) {
+        self.release_kept(rt, Kept::Left(Leftover::Store(store)));
+    }
+
+    /// The same, where this is left of the open that reached the file.
+    pub(crate) fn release_kept(self, rt: &HostRuntime, kept: Kept<File>)
+        requires { AreLocked kept }
+    {
         self.place.restore_log(rt, &kept, self.log);
     }
 }

@@ -8,13 +8,13 @@ use Rattle.ledger_files.proofs.rounds.stop.Goals as goal
 
 pub returns-clause-left : goal.returns-clause-left
 returns-clause-left g c clean left may =
-    subst (λ h. HoldsOneOf (view c.leave.result).has_sums left (file_state h).may_leave) c.into_connection.ensures (c.leave.ensures.left clean left may)
+    subst (λ h. HoldsOneOf (view c.leave.result).has_sums left (file_state h).may_leave) c.connection_of.ensures (c.leave.ensures.left clean left may)
 
 pub returns-clause-kept : goal.returns-clause-kept
-returns-clause-kept g c db may = subst (λ h. (file_state h).may_leave db) c.into_connection.ensures (c.leave.ensures.kept db may)
+returns-clause-kept g c db may = subst (λ h. (file_state h).may_leave db) c.connection_of.ensures (c.leave.ensures.kept db may)
 
 pub returns-clause-clean : goal.returns-clause-clean
-returns-clause-clean g c = subst (λ h. doubt (file_state h).is_clean ≤ doubt (view c.leave.result).is_clean) c.into_connection.ensures c.leave.ensures.clean
+returns-clause-clean g c = subst (λ h. doubt (file_state h).is_clean ≤ doubt (view c.leave.result).is_clean) c.connection_of.ensures c.leave.ensures.clean
 
 pub returns-clause-link : goal.returns-clause-link
 returns-clause-link g c first commands replies it =
