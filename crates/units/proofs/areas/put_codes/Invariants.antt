@@ -1,5 +1,6 @@
+use Rattle.std.proofs.Common.{◌*◌}
 use Rattle.units.proofs.AreaLemmas.{IsWritten}
 use Rattle.units.proofs.areas.put_codes.Given as goal
 
-abbrev pub invariant-loop-place : goal.invariant-loop-place
-invariant-loop-place g l = IsWritten (g.C.Core.cells l.fn.core) l.codes l.first l.place (g.C.Core.cells l.core)
+abbrev pub invariant-loop-block : goal.invariant-loop-block
+invariant-loop-block g l = IsWritten (g.C.Core.cells l.fn.core) l.codes l.first (l.block * 16) (g.C.Core.cells l.core)
