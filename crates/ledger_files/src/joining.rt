@@ -63,10 +63,10 @@ fn filled<S: Alter, T: Alter, U: Alter + Drop, J: Joining>(
 }
 
 /// Makes a bureau in an empty file, fills it and closes it, so that all of it is in this one file.
-fn fill_part<S: Alter, J: Joining>(
+fn fill_part<S: Alter, T: Alter, J: Joining>(
     rt: &HostRuntime,
     first: &mut Connection<S>,
-    second: &mut Connection<S>,
+    second: &mut Connection<T>,
     part: &Place,
     joining: &mut J,
 ) -> Result<(), CopyFault> {
@@ -82,13 +82,13 @@ fn fill_part<S: Alter, J: Joining>(
 
 /// Compares a new file with the two, which are open. The log that an open of the new file makes is
 /// removed. Hands the stores of the two back.
-fn read_joined<S: Alter + Drop, J: Joining>(
+fn read_joined<S: Alter + Drop, T: Alter + Drop, J: Joining>(
     rt: &HostRuntime,
     first: Connection<S>,
-    second: Connection<S>,
+    second: Connection<T>,
     part: &Place,
     joining: &mut J,
-) -> (Result<(), CopyFault>, S, S) {
+) -> (Result<(), CopyFault>, S, T) {
     match open_part(rt, part) {
         Ok(joined) => {
             let (store, other, joined) = joining.compare(first, second, joined);
@@ -100,13 +100,13 @@ fn read_joined<S: Alter + Drop, J: Joining>(
 }
 
 /// Makes the new file, and compares it with the two, which are open. Hands their stores back.
-fn try_part<S: Alter + Drop, J: Joining>(
+fn try_part<S: Alter + Drop, T: Alter + Drop, J: Joining>(
     rt: &HostRuntime,
     first: Connection<S>,
-    second: Connection<S>,
+    second: Connection<T>,
     part: &Place,
     joining: &mut J,
-) -> (Result<(), CopyFault>, S, S) {
+) -> (Result<(), CopyFault>, S, T) {
     let mut first = first;
     let mut second = second;
     match fill_part(rt, &mut first, &mut second, part, joining) {
