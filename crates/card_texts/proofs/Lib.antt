@@ -11,3 +11,4 @@ mod TakenLines
 mod DeckLaw
 mod SettlingLaw
 mod ChangeLemmas
+mod TakingLemmas

@@ -6,3 +6,4 @@ pub mod Punching
 pub mod DeckTexts
 pub mod Changes
 pub mod Remedies
+pub mod Taking
