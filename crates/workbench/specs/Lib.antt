@@ -1,3 +1,4 @@
 pub mod Decks
+pub mod Intake
 pub mod Punching
 pub mod Sources

@@ -15,6 +15,7 @@ mod drawing;
 mod files;
 mod filing;
 mod folders;
+mod intake;
 mod listing;
 mod manifests;
 mod numbering;
@@ -22,6 +23,7 @@ mod process;
 mod punching;
 mod sources;
 mod stops;
+mod taking;
 mod talking;
 mod undone;
 
@@ -29,6 +31,7 @@ use crate::benching::{dump_deck, profile_deck, trace_deck};
 use crate::converting::convert;
 use crate::drawing::{draw_card, draw_deck, draw_pages};
 use crate::filing::write_page;
+use crate::intake::take_in;
 use crate::listing::{compare_decks, list_deck};
 use crate::manifests::{Listing, manifest};
 use crate::numbering::{check_numbers, number_deck};
@@ -96,6 +99,7 @@ fn work<W: Write, E: Write>(
                 },
             )
         },
+        Task::Intake(intake) => take_in(process, intake),
         Task::Trace(tracing) => trace_deck(process, *tracing),
         Task::Dump(dumping) => dump_deck(process, *dumping),
         Task::Profile { setup, names } => profile_deck(process, *setup, *names),

@@ -63,7 +63,7 @@ const COUNT_IN_FRONT: &str =
     "its name begins with a number and two blanks, as a line of --cards has; write ./ before it";
 
 /// Why no line can have a name, if none can: other programs, or `--check`, would read another name.
-fn hindrance_of(name: &[u8]) -> Option<&'static str> {
+pub(crate) fn hindrance_of(name: &[u8]) -> Option<&'static str> {
     if name.contains(&b'\n') {
         return Some("its name has a line feed; rename it");
     }
@@ -160,7 +160,7 @@ fn split_line(text: &[u8]) -> (&[u8], &[u8])
 }
 
 /// The lines of a text, without their ends.
-fn lines_of(alloc: Global, text: &[u8]) -> Result<Vec<&[u8]>, AllocError> {
+pub(crate) fn lines_of(alloc: Global, text: &[u8]) -> Result<Vec<&[u8]>, AllocError> {
     let mut lines = Vec::new(alloc);
     let mut rest = text;
     while !rest.is_empty() {

@@ -33,7 +33,7 @@ fn tell_no_code<E: Write>(errors: &mut E, bytes: [u8; 4]) -> io::Result<()> {
 }
 
 /// Says what is wrong with a line.
-fn tell_text_fault<E: Write>(errors: &mut E, fault: TextFault) -> io::Result<()> {
+pub(crate) fn tell_text_fault<E: Write>(errors: &mut E, fault: TextFault) -> io::Result<()> {
     let line = fault.line;
     let column = fault.column;
     if let TextError::TooManyCards = fault.error {
@@ -57,7 +57,7 @@ fn tell_text_fault<E: Write>(errors: &mut E, fault: TextFault) -> io::Result<()>
 }
 
 /// Whether a fault is that a line is one of a punch file.
-fn is_of_punch_file(fault: &TextFault) -> bool {
+pub(crate) fn is_of_punch_file(fault: &TextFault) -> bool {
     matches!(fault.error, TextError::PunchLine)
 }
 
@@ -155,21 +155,21 @@ fn count_filled(changes: &[Change]) -> usize
 }
 
 /// How many lines have small letters.
-fn count_folded(changes: &[Change]) -> usize
+pub(crate) fn count_folded(changes: &[Change]) -> usize
     ensures { result ≡ count_by (λ change. change.folded) changes.now }
 {
     changes.iter().filter(|&change| change.folded).count()
 }
 
 /// How many lines are blank cards.
-fn count_blank(changes: &[Change]) -> usize
+pub(crate) fn count_blank(changes: &[Change]) -> usize
     ensures { result ≡ count_by (λ change. change.blank) changes.now }
 {
     changes.iter().filter(|&change| change.blank).count()
 }
 
 /// How many lines are blank cards and had fewer than 80 columns.
-fn count_empty(changes: &[Change]) -> usize
+pub(crate) fn count_empty(changes: &[Change]) -> usize
     ensures { result ≡ count_by (λ change. is_empty_line change) changes.now }
 {
     changes
@@ -179,7 +179,7 @@ fn count_empty(changes: &[Change]) -> usize
 }
 
 /// The tabs of lines, or the greatest number that there is.
-fn tabs_of(changes: &[Change]) -> usize
+pub(crate) fn tabs_of(changes: &[Change]) -> usize
     ensures { result ≡ tabs_of changes.now }
 {
     let mut tabs = 0usize;
@@ -226,7 +226,7 @@ fn empty_told(sum: &Sum) -> &'static [u8]
 }
 
 /// The option that leaves out the numbers in columns 73 to 80, where these rise.
-fn numbers_told(rise: bool) -> &'static [u8]
+pub(crate) fn numbers_told(rise: bool) -> &'static [u8]
     ensures { result.now ≡ numbers_told rise }
 {
     if rise {
@@ -256,7 +256,7 @@ fn sum_line(alloc: Global, sum: &Sum, rise: bool) -> Result<Vec<u8>, AllocError>
 
 /// Whether the numbers in columns 73 to 80 of a deck's text rise; not where it is none, or where
 /// there is no memory.
-fn rises(alloc: Global, deck: &[u8]) -> bool {
+pub(crate) fn rises(alloc: Global, deck: &[u8]) -> bool {
     let Ok(deck) = read_text(alloc, deck) else {
         return false;
     };

@@ -59,6 +59,15 @@ workbench = record {
         codes "manifest FILE.. [--form FORM] [--cards] [--check KNOWN]",
       )
       ∷ (
+        name.Intake,
+        codes "intake",
+        (codes "FOLDER", Value) ∷ (codes "OUT", Value) ∷ (codes "fold", Flag)
+            ∷ (codes "tabs", Setting) ∷ (codes "signs", Setting) ∷ (codes "keep", Setting)
+            ∷ (codes "empty", Setting) ∷ [],
+        codes "intake FOLDER OUT [--fold] [--tabs LIST] [--signs TABLE] "
+            ++ codes "[--keep COLUMN] [--empty MODE]",
+      )
+      ∷ (
         name.Trace,
         codes "trace",
         (codes "DECK", Value) ∷ (codes "SIZE", Value) ∷ (codes "SWITCHES", Value)

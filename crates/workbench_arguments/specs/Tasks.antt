@@ -20,7 +20,7 @@ use Rattle.workbench_arguments.specs.declared.subcommands.Subcommand.{Subcommand
 use Rattle.workbench_arguments.specs.declared.subcommands.Subcommand.TheVariants as name
 use Rattle.workbench_arguments.specs.declared.tasks.Setup.{Setup}
 use Rattle.workbench_arguments.specs.declared.tasks.Task.{Task}
-use Rattle.workbench_arguments.specs.declared.tasks.Task.TheVariants.{Show, Punch, List as ListCards, Compare, Convert, Number, CheckNumbers, Source, Manifest, Trace, Dump, Profile, Console, Card, Deck, Pages, Page}
+use Rattle.workbench_arguments.specs.declared.tasks.Task.TheVariants.{Show, Punch, List as ListCards, Compare, Convert, Number, CheckNumbers, Source, Manifest, Trace, Dump, Profile, Console, Card, Deck, Pages, Page, Intake}
 
 -- these are the columns of `--tabs`, or none where it is not given
 abbrev pub HasTabs : List Row → List ℕ → Type 0
@@ -30,6 +30,11 @@ HasTabs found tabs = ReadsOr AreStops [] (first_of (codes "tabs") found) tabs
 abbrev pub HasSigns : List Row → Signs → Type 0
 HasSigns found signs =
     ReadsOr (λ argument signs. argument ≡ word_of_signs signs) Bureau (first_of (codes "signs") found) signs
+
+-- this is the table that `--signs` names, if it is given
+abbrev pub NamesSigns : List Row → Option Signs → Type 0
+NamesSigns found named =
+    ReadsIf (λ argument signs. argument ≡ word_of_signs signs) (first_of (codes "signs") found) named
 
 -- this is the column of `--keep`, 1 to 80, if it is given
 abbrev pub HasKept : List Row → Option ℕ → Type 0
@@ -54,6 +59,13 @@ WantsPunch found (Punch it) = HasArgument (codes "IN") found it.text.now
     × HasArgument (codes "OUT") found it.out.now × AreRulesOf found it.rules
     × (it.reports ≡ has_flag (codes "report") found)
 WantsPunch found other = ⊥
+
+-- the task of `intake`: the rules of `punch`, and the table that is named, if one is
+abbrev pub WantsIntake : List Row → Task → Type 0
+WantsIntake found (Intake it) = HasArgument (codes "FOLDER") found it.folder.now
+    × HasArgument (codes "OUT") found it.out.now × AreRulesOf found it.rules
+    × NamesSigns found it.named
+WantsIntake found other = ⊥
 
 -- the task of `list`
 abbrev pub WantsList : List Row → Task → Type 0
@@ -197,6 +209,7 @@ WantsTask name.Sequence found task = WantsSequence found task
 WantsTask name.Source found task = WantsSource found task
 WantsTask name.Manifest found task = WantsManifest found task
 WantsTask name.Convert found task = WantsConvert found task
+WantsTask name.Intake found task = WantsIntake found task
 WantsTask name.Trace found task = WantsTrace found task
 WantsTask name.Dump found task = WantsDump found task
 WantsTask name.Profile found task = WantsProfile found task

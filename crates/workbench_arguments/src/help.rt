@@ -20,6 +20,7 @@ usage: workbench SUBCOMMAND ARGUMENTS.. [OPTIONS]
   convert IN OUT FROM TO                makes a deck of one form one of another
   source IN [--data] [--width WIDTH]    prints a source with its code, or faults
   manifest FILE.. [OPTIONS]             prints digests of decks, or compares
+  intake FOLDER OUT [OPTIONS]           takes each file of a folder as a deck
   trace DECK SIZE SWITCHES [OPTIONS]    prints the instructions of a run
   dump DECK SIZE SWITCHES [OPTIONS]     prints the storage in or after a run
   profile DECK SIZE SWITCHES [OPTIONS]  prints how often each instruction ran
@@ -64,6 +65,7 @@ OUT  the deck's text: 80 glyphs and a line feed a card
 --tabs LIST     a tab goes on at the next of these columns, as 6,16,21,41;
                 behind the last of them it is a blank
 --signs simh    the text has the signs of SimH's IBM 1401 and not the glyphs
+                (--signs glyphs, as without it)
 --keep COLUMN   columns behind this one are not looked at and become blank, as
                 72 for sequence numbers
 --empty MODE    what a line without a character is: card (a blank card, as
@@ -205,6 +207,37 @@ checks it; a file of another form wants a sha256sum of its own. A name that
 begins with a number and two blanks, or ends with a carriage return, would be
 read as another one and is told. A file that is no deck is told with its fault,
 the status is 1 then, and the others go on.
+";
+
+/// The text that `intake --help` prints.
+pub const INTAKE_HELP: &str = "\
+workbench intake FOLDER OUT [--fold] [--tabs LIST] [--signs TABLE]
+[--keep COLUMN] [--empty MODE]: takes each file of a folder as a deck.
+
+FOLDER  a folder; its files and those of the folders below it are read, and
+        none is changed
+OUT     the folder of the decks' texts, each at the path that its file has in
+        FOLDER. What is there is never written over
+
+--fold          small letters are capitals
+--tabs LIST     a tab goes on at the next of these columns, as 6,16,21,41;
+                behind the last of them it is a blank
+--signs simh    texts have the signs of SimH's IBM 1401; --signs glyphs: they
+                have the glyphs. Without it both are tried
+--keep COLUMN   columns behind this one are not looked at and become blank, as
+                72 for sequence numbers
+--empty MODE    what a line without a character is: card (a blank card, as
+                without it), drop (no card) or fault
+
+example:
+  workbench intake collection decks
+
+A file is taken if it is a punch file, column binary, or a text without faults.
+Nothing is guessed: a file that is one deck in one way and another deck in
+another way is refused, and so is a text with small letters without --fold. A
+line for each file says how it was taken, or why it is refused; these are last.
+Called again, it takes what is new. The digests of the decks taken are added to
+the file OUT.manifest, as manifest prints them. Status 1: a file is refused.
 ";
 
 /// The text that `trace --help` prints.
@@ -394,6 +427,7 @@ pub(crate) fn page(subcommand: Option<Subcommand>) -> &'static str
         Some(Subcommand::Convert) => CONVERT_HELP,
         Some(Subcommand::Source) => SOURCE_HELP,
         Some(Subcommand::Manifest) => MANIFEST_HELP,
+        Some(Subcommand::Intake) => INTAKE_HELP,
         Some(Subcommand::Trace) => TRACE_HELP,
         Some(Subcommand::Dump) => DUMP_HELP,
         Some(Subcommand::Profile) => PROFILE_HELP,

@@ -19,6 +19,8 @@ pub enum Subcommand {
     Source,
     /// `manifest`.
     Manifest,
+    /// `intake`.
+    Intake,
     /// `trace`.
     Trace,
     /// `dump`.
@@ -38,7 +40,7 @@ pub enum Subcommand {
 }
 
 /// The subcommands.
-const SUBCOMMANDS: [Syntax<Subcommand>; 15] = [
+const SUBCOMMANDS: [Syntax<Subcommand>; 16] = [
     Syntax {
         subcommand: Subcommand::Punch,
         name: "punch",
@@ -114,6 +116,21 @@ const SUBCOMMANDS: [Syntax<Subcommand>; 15] = [
             ("check", Kind::Setting),
         ],
         usage: "manifest FILE.. [--form FORM] [--cards] [--check KNOWN]",
+    },
+    Syntax {
+        subcommand: Subcommand::Intake,
+        name: "intake",
+        arguments: &[
+            ("FOLDER", Kind::Value),
+            ("OUT", Kind::Value),
+            ("fold", Kind::Flag),
+            ("tabs", Kind::Setting),
+            ("signs", Kind::Setting),
+            ("keep", Kind::Setting),
+            ("empty", Kind::Setting),
+        ],
+        usage: "intake FOLDER OUT [--fold] [--tabs LIST] [--signs TABLE] \
+             [--keep COLUMN] [--empty MODE]",
     },
     Syntax {
         subcommand: Subcommand::Trace,

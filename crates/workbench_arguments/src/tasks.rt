@@ -9,7 +9,7 @@ ghost use Rattle.command_line.specs.{
 ghost use Rattle.workbench_arguments.specs.Subcommands.{workbench};
 ghost use Rattle.card_forms.specs.Forms.{word_of};
 ghost use Rattle.workbench_arguments.specs.{
-  Tasks.{HasEmpty, HasForm, HasKept, HasSigns, HasTabs, IsNarrow, Wants, WantsCompare, WantsConvert, WantsList, WantsManifest, WantsPunch, WantsSequence, WantsSource, WantsTask},
+  Tasks.{AreRulesOf, HasEmpty, HasForm, HasKept, HasSigns, HasTabs, IsNarrow, NamesSigns, Wants, WantsCompare, WantsConvert, WantsIntake, WantsList, WantsManifest, WantsPunch, WantsSequence, WantsSource, WantsTask},
   Values.{IsNumeral},
 };
 
@@ -52,6 +52,19 @@ pub struct Punching<'a> {
     pub rules: Rules,
     /// Whether each line that was changed is told.
     pub reports: bool,
+}
+
+/// How the files of a folder are taken as decks.
+#[derive(Drop)]
+pub struct Intake<'a> {
+    /// The path of the folder.
+    pub folder: &'a str,
+    /// The path of the folder of decks.
+    pub out: &'a str,
+    /// How the lines of a text are taken.
+    pub rules: Rules,
+    /// The signs of all texts, if they are named.
+    pub named: Option<Signs>,
 }
 
 /// How the cards of a deck are numbered.
@@ -162,6 +175,8 @@ pub enum Task<'a> {
         /// The path of the digests to compare with.
         known: Option<&'a str>,
     },
+    /// Take the files of a folder as decks.
+    Intake(Intake<'a>),
     /// Print the instructions of a run.
     Trace(Tracing<'a>),
     /// Print the storage after a run.
@@ -232,6 +247,17 @@ fn signs_in(found: &Found<'_>) -> Result<Signs, Mistake<'static>>
     }
 }
 
+/// The table that `--signs` names, if it is given.
+fn named_in(found: &Found<'_>) -> Result<Option<Signs>, Mistake<'static>>
+    ensures { IfOk result (λ named. NamesSigns (given found.now) named) }
+{
+    let Some(argument) = found.value("signs") else {
+        return Ok(None);
+    };
+    let signs = signs_of(argument).ok_or(Mistake::Value(NO_SIGNS))?;
+    Ok(Some(signs))
+}
+
 /// The column of `--keep`, if it is given.
 fn kept_in(found: &Found<'_>) -> Result<Option<u8>, Mistake<'static>>
     ensures { IfOk result (λ keeps. HasKept (given found.now) keeps) }
@@ -253,24 +279,47 @@ fn empty_in(found: &Found<'_>) -> Result<EmptyLine, Mistake<'static>>
     }
 }
 
+/// How the lines of a text are taken, by the options of `punch`.
+fn rules_in(alloc: Global, found: &Found<'_>) -> Result<Rules, Mistake<'static>>
+    ensures { IfOk result (AreRulesOf (given found.now)) }
+{
+    Ok(Rules {
+        folds: found.has_flag("fold"),
+        tabs: tabs_in(alloc, found)?,
+        signs: signs_in(found)?,
+        keeps: kept_in(found)?,
+        empty: empty_in(found)?,
+    })
+}
+
 /// The task of a subcommand `punch`.
 fn punch_task<'a>(alloc: Global, found: &Found<'a>) -> Result<Task<'a>, Mistake<'static>>
     ensures { IfOk result (WantsPunch (given found.now)) }
 {
     let text = found.needed("IN")?;
     let out = found.needed("OUT")?;
-    let rules = Rules {
-        folds: found.has_flag("fold"),
-        tabs: tabs_in(alloc, found)?,
-        signs: signs_in(found)?,
-        keeps: kept_in(found)?,
-        empty: empty_in(found)?,
-    };
+    let rules = rules_in(alloc, found)?;
     Ok(Task::Punch(Punching {
         text,
         out,
         rules,
         reports: found.has_flag("report"),
+    }))
+}
+
+/// The task of a subcommand `intake`.
+fn intake_task<'a>(alloc: Global, found: &Found<'a>) -> Result<Task<'a>, Mistake<'static>>
+    ensures { IfOk result (WantsIntake (given found.now)) }
+{
+    let folder = found.needed("FOLDER")?;
+    let out = found.needed("OUT")?;
+    let rules = rules_in(alloc, found)?;
+    let named = named_in(found)?;
+    Ok(Task::Intake(Intake {
+        folder,
+        out,
+        rules,
+        named,
     }))
 }
 
@@ -406,6 +455,7 @@ fn subcommand_task<'a>(
         Subcommand::Source => source_task(found),
         Subcommand::Manifest => manifest_task(alloc, found),
         Subcommand::Convert => convert_task(found),
+        Subcommand::Intake => intake_task(alloc, found),
         Subcommand::Trace => trace_task(found),
         Subcommand::Dump => dump_task(found),
         Subcommand::Profile => profile_task(found),
