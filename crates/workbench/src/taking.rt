@@ -13,6 +13,10 @@ use card_texts::{Change, Reading, Rules, Signs, TextFault, Untaken, Way, changes
 use std::alloc::{AllocError, Global};
 use texts::push_decimal;
 
+/// What is said of a text that is one deck by each table of signs, and not the same.
+const TWO_TEXTS: &[u8] = b"as text by glyphs and by SimH's signs it is two decks; name --signs \
+      glyphs or --signs simh\n";
+
 /// The same rules, in memory of their own.
 pub(crate) fn copy_of(alloc: Global, rules: &Rules) -> Result<Rules, AllocError>
     ensures { IfOk result (IsCopy rules.now) }
@@ -39,7 +43,6 @@ fn words_of(way: Way) -> &'static str {
 /// What takes a file as one of the two decks that it is in these ways.
 fn way_out(one: Way, other: Way) -> &'static str {
     match (one, other) {
-        (Way::Text(_), Way::Text(_)) => "name --signs glyphs or --signs simh",
         (Way::Text(_), _) | (_, Way::Text(_)) => "take it by workbench convert or workbench punch",
         _ => "name its form to workbench convert",
     }
@@ -47,13 +50,15 @@ fn way_out(one: Way, other: Way) -> &'static str {
 
 /// Says that a file is two decks.
 fn tell_two_decks(told: &mut Vec<u8>, one: Way, other: Way) -> Result<(), AllocError> {
+    if let (Way::Text(_), Way::Text(_)) = (one, other) {
+        return told.extend_from_slice(TWO_TEXTS);
+    }
     told.extend_from_slice(words_of(one).as_bytes())?;
     told.extend_from_slice(b" and ")?;
     told.extend_from_slice(words_of(other).as_bytes())?;
     told.extend_from_slice(b" it is two decks; ")?;
     told.extend_from_slice(way_out(one, other).as_bytes())?;
-    told.push(b'\n')?;
-    Ok(())
+    told.extend_from_slice(b"\n")
 }
 
 /// Says one of the faults of a text: that a line is one of a punch file, if one is, and else the
