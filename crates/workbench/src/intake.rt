@@ -115,22 +115,23 @@ fn put(rt: &HostRuntime, target: &str, text: &[u8]) -> io::Result<()> {
     replace_file(rt, target, text)
 }
 
-/// Adds the line of a deck to the new ones of the manifest, unless the manifest has it.
+/// Adds the line of a deck to the new ones of the manifest, unless the manifest has it. A deck's own
+/// text is read, if there is memory.
 fn push_digest(
     alloc: Global,
     tally: &mut Tally,
     place: Destination<'_>,
     text: &[u8],
-) -> Result<(), AllocError> {
+) -> Result<(), Undone> {
     let Ok(deck) = read_text(alloc, text) else {
-        return Ok(());
+        return Err(Undone::Memory);
     };
     let line = manifest_line(alloc, &deck, place.target.as_bytes())?;
     let is_known = |known: &&[u8]| line.strip_suffix(b"\n") == Some(*known);
     if place.known.iter().any(is_known) {
         return Ok(());
     }
-    tally.digests.extend_from_slice(&line)
+    Ok(tally.digests.extend_from_slice(&line)?)
 }
 
 /// What stands at the path of a deck's text in the end.
