@@ -14,8 +14,7 @@ use std::alloc::{AllocError, Global};
 use texts::push_decimal;
 
 /// What is said of a text that is one deck by each table of signs, and not the same.
-const TWO_TEXTS: &[u8] = b"as text by glyphs and by SimH's signs it is two decks; name --signs \
-      glyphs or --signs simh\n";
+const TWO_TEXTS: &[u8] = b"two decks, by --signs glyphs and by --signs simh; name one\n";
 
 /// The same rules, in memory of their own.
 pub(crate) fn copy_of(alloc: Global, rules: &Rules) -> Result<Rules, AllocError>
