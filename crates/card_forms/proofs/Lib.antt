@@ -1,5 +1,9 @@
-pub mod FilledColumns
-pub mod SimhLines
 pub mod BinaryColumns
-pub mod PunchDigits
+pub mod FilledColumns
 pub mod FormLaw
+pub mod ImageCharacters
+pub mod ImageColumns
+pub mod ImageDecks
+pub mod ImageLaw
+pub mod PunchDigits
+pub mod SimhLines

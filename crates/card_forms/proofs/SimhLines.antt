@@ -3,7 +3,7 @@ use Rattle.std.proofs.Common.{◌≡◌, ◌≢◌, ℕ, zero, suc, ◌+◌, ◌
 use Rattle.std.specs.List.{flat_map, All, slice_split}
 use Rattle.std.specs.Str.Lines.{lines, lines_of_parts, strip_carriage_return}
 use Rattle.std.proofs.lemmas.Bool.{eqb-true}
-use Rattle.std.proofs.lemmas.List.{length-map, map-append, take_all}
+use Rattle.std.proofs.lemmas.List.{length-map, map-append}
 use Rattle.std.proofs.lemmas.List.Elements.{All-head, All-tail, All-map}
 use Rattle.std.proofs.lemmas.List.Quantifiers.{position-Some}
 use Rattle.std.proofs.lemmas.List.Sums.{position_or_len_is, fails_before_first}
@@ -53,17 +53,11 @@ line_open text some none =
     let parts = slice_split_none is_feed text (λ k d below. fails_before_first is_feed text k d (omega (arith, below, whole))) in
     ap lines_of_parts parts ∙ grind (arith, some)
 
--- one line more of those that are looked at
-pub line_taken : (done : List ℕ) (left more : ℕ) (line : List ℕ) (all others : List (List ℕ)) → left ≡ more + 1
-    → all ≡ line ∷ others → (done ++ deck_line_of line) ++ flat_map deck_line_of (take more others)
-    ≡ done ++ flat_map deck_line_of (take left all)
-line_taken done left more line all others one first =
-    let next : left ≡ suc more = omega arith in
-    rw (next, first) (append_assoc done (deck_line_of line) (flat_map deck_line_of (take more others)))
-
--- where no line is left none is taken
-pub none_taken : (left : ℕ) → flat_map deck_line_of (take left []) ≡ []
-none_taken left = rw (take_all {A = List ℕ} left [] (omega arith)) refl
+-- one line more
+pub line_more : (done line : List ℕ) (all others : List (List ℕ)) → all ≡ line ∷ others
+    → (done ++ deck_line_of line) ++ flat_map deck_line_of others ≡ done ++ flat_map deck_line_of all
+line_more done line all others first =
+    rw first (append_assoc done (deck_line_of line) (flat_map deck_line_of others))
 
 -- no sign ends a line
 sign_plain : (code : ℕ) → code < 64 → (not (simh_sign code == 10) && not (simh_sign code == 13)) ≡ true
@@ -147,5 +141,4 @@ lines_read (card ∷ deck) each =
 pub text_read : (deck : List Card) → IsDeck deck → deck_text_of (simh_text_of deck) ≡ text_of deck
 unfolding deck_text_of
 text_read deck is_deck =
-    let few : length (map signs_of deck) ≤ 2001 = omega (arith, length-map deck signs_of, is_deck.0) in
-    rw (lines_punched deck is_deck.1, take_all 2001 (map signs_of deck) few) (lines_read deck is_deck.1)
+    rw (lines_punched deck is_deck.1) (lines_read deck is_deck.1)

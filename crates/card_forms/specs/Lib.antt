@@ -1,6 +1,9 @@
 pub mod ColumnBinary
 pub mod Faults
 pub mod Forms
+pub mod ImageFaults
+pub mod ImageFiles
+pub mod Images
 pub mod PunchFiles
 pub mod Signs
 pub mod SimhTexts

@@ -1,5 +1,5 @@
 -- decks as the texts that SimH's IBM 1401 reads and punches
-use Rattle.std.specs.Prelude.{ℕ, ◌-◌, List, [], ◌∷◌, ◌++◌, length, map, take, replicate}
+use Rattle.std.specs.Prelude.{ℕ, ◌-◌, List, [], ◌∷◌, ◌++◌, length, map, replicate}
 use Rattle.std.specs.List.{flat_map}
 use Rattle.std.specs.Str.Lines.{lines}
 use Rattle.cards.specs.declared.Card.{Card}
@@ -24,7 +24,6 @@ abbrev pub deck_line_of : List ℕ → List ℕ
 deck_line_of line = filled_up (map simh_glyph line) ++ 10 ∷ []
 
 -- the deck text for which a text stands: a line of it ends with a line feed, which may follow a
--- carriage return, or with the text. A deck has at most 2,000 cards, so no line behind the 2,001st
--- is looked at
+-- carriage return, or with the text
 unfoldable pub deck_text_of : List ℕ → List ℕ
-deck_text_of text = flat_map deck_line_of (take 2001 (lines text))
+deck_text_of text = flat_map deck_line_of (lines text)

@@ -12,7 +12,7 @@ use cards::{COLUMNS, Card, LINE_FEED};
 use std::alloc::{AllocError, Global};
 
 /// The upper-case hexadecimal digit of a number's lowest four bits.
-fn digit_of(number: u16) -> u8
+pub(crate) fn digit_of(number: u16) -> u8
     ensures { result ≡ hexadecimal (number % 16) }
 {
     b"0123456789ABCDEF"[number as usize % 16]
@@ -38,7 +38,7 @@ fn column_digits(upper: u8, lower: u8) -> [u8; 3]
 }
 
 /// The two bytes of the first column, and the bytes behind them.
-fn split_column(bytes: &[u8]) -> Option<(u8, u8, &[u8])>
+pub(crate) fn split_column(bytes: &[u8]) -> Option<(u8, u8, &[u8])>
     ensures found { IfSome result (λ found. bytes.now ≡ found.0 ∷ found.1 ∷ found.2.now) }
     ensures none { IsNone result → length bytes.now ≤ 1 }
 {

@@ -7,7 +7,7 @@ ghost use Rattle.std.specs.{
 ghost use Rattle.card_forms.specs.SimhTexts.{deck_line_of, deck_text_of, simh_line_of, simh_text_of};
 
 use crate::signs::{filled, simh_glyph, simh_sign};
-use cards::{COLUMNS, Card, LARGEST_DECK, LINE_FEED};
+use cards::{COLUMNS, Card, LINE_FEED};
 use std::alloc::{AllocError, Global};
 
 /// The place of the first line feed.
@@ -53,17 +53,14 @@ fn push_deck_line(text: &mut Vec<u8>, line: &[u8]) -> Result<(), AllocError>
     Ok(())
 }
 
-/// The deck text for which a text stands. It takes one more line than a deck has cards, so that the
-/// deck text has a fault there.
+/// The deck text for which a text stands.
+#[tactic(auto, unfolding(crate::specs::SimhTexts::deck_text_of))]
 pub(crate) fn deck_text(alloc: Global, text: &[u8]) -> Result<Vec<u8>, AllocError>
     ensures { IfOk result (λ deck. deck.items ≡ deck_text_of text.now) }
 {
     let mut deck = Vec::new(alloc);
     let mut rest = text;
-    for _line in 0..LARGEST_DECK + 1 {
-        if rest.is_empty() {
-            return Ok(deck);
-        }
+    while !rest.is_empty() {
         let (line, behind) = split_line(rest);
         push_deck_line(&mut deck, line)?;
         rest = behind;
