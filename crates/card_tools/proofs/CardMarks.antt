@@ -1,8 +1,8 @@
 -- the marks of the columns in which two cards differ
 use Rattle.std.proofs.Common.{◌≡◌, ℕ, zero, suc, ◌+◌, ◌<◌, ◌≤◌, ◌==◌, true, false, if◌then◌else◌, List, [], ◌∷◌, ◌++◌, length, take, get_or, set, refl, ap, sym, ◌∙◌, arith}
 use Rattle.std.proofs.lemmas.List.{take_all, take_more_set, get_or_read}
-use Rattle.cards.specs.declared.Card.{Card}
 use Rattle.card_forms.specs.Signs.{are_blank, filled}
+use Rattle.card_forms.specs.declared.images.CardImage.{CardImage}
 use Rattle.card_tools.specs.Comparing.{both_shown, differing_of, marks_of, shown_of}
 
 -- one column more
@@ -51,18 +51,18 @@ filled_none (code ∷ codes) =
     ]) refl
 
 -- what is shown of two cards, by whether a column of theirs is marked
-pub same_shown : (number : ℕ) (one two : Card) → are_blank (marks_of one.0 two.0) ≡ true → shown_of number one two ≡ []
+pub same_shown : (number : ℕ) (one two : CardImage) → are_blank (marks_of one.0 two.0) ≡ true → shown_of number one two ≡ []
 same_shown number one two same = rw same refl
 
-pub same_count : (one two : Card) → are_blank (marks_of one.0 two.0) ≡ true → differing_of one two ≡ 0
+pub same_count : (one two : CardImage) → are_blank (marks_of one.0 two.0) ≡ true → differing_of one two ≡ 0
 same_count one two same = rw same refl
 
-pub other_shown : (number : ℕ) (one two : Card) → are_blank (marks_of one.0 two.0) ≡ false → shown_of number one two ≡ both_shown number one two
+pub other_shown : (number : ℕ) (one two : CardImage) → are_blank (marks_of one.0 two.0) ≡ false → shown_of number one two ≡ both_shown number one two
 other_shown number one two other = rw other refl
 
-pub other_count : (one two : Card) → are_blank (marks_of one.0 two.0) ≡ false → differing_of one two ≡ 1
+pub other_count : (one two : CardImage) → are_blank (marks_of one.0 two.0) ≡ false → differing_of one two ≡ 1
 other_count one two other = rw other refl
 
 -- at most one card of two differs
-pub count_few : (one two : Card) → differing_of one two ≤ 1
+pub count_few : (one two : CardImage) → differing_of one two ≤ 1
 count_few one two = elim (are_blank (marks_of one.0 two.0)) as (λ b. (if b then 0 else 1) ≤ 1) [ true ↦ omega arith | false ↦ omega arith ]

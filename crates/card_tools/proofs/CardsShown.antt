@@ -3,6 +3,7 @@ use Rattle.std.proofs.Common.{◌≡◌, ℕ, ◌+◌, ◌<◌, ◌≤◌, min, 
 use Rattle.std.proofs.lemmas.List.{drop_all, drop_more, flat_map_more, take_more}
 use Rattle.std.specs.List.{flat_map}
 use Rattle.cards.specs.declared.Card.{Card}
+use Rattle.card_forms.specs.declared.images.CardImage.{CardImage}
 use Rattle.card_tools.specs.Checking.{last_of, number_of, told_from, told_of}
 use Rattle.card_tools.specs.Comparing.{differing_among, differing_of, only_from, shown_from, shown_of}
 use Rattle.card_tools.specs.Lines.{numbered_card}
@@ -22,51 +23,51 @@ all_done rest_of xs i done whole end none same =
     sym (append-nil done) ∙ ap (λ rest. done ++ rest) (sym none) ∙ ap (λ rest. done ++ rest_of rest) (sym (drop_all i xs end)) ∙ same
 
 -- one card more of a listing
-pub listed_on : (options : ListOptions) (number : ℕ) (card : Card) (rest all : List Card) (done : List ℕ) → all ≡ card ∷ rest
+pub listed_on : (options : ListOptions) (number : ℕ) (card : CardImage) (rest all : List CardImage) (done : List ℕ) → all ≡ card ∷ rest
     → (done ++ card_shown options number card) ++ listing_from options (number + 1) rest ≡ done ++ listing_from options number all
 unfolding listing_from
 listed_on options number card rest all done first =
     rw first (append_assoc done (card_shown options number card) (listing_from options (number + 1) rest))
 
 -- one card more of those that one deck alone has
-pub only_on : (words : List ℕ) (number : ℕ) (card : Card) (rest all : List Card) (done : List ℕ) → all ≡ card ∷ rest
+pub only_on : (words : List ℕ) (number : ℕ) (card : CardImage) (rest all : List CardImage) (done : List ℕ) → all ≡ card ∷ rest
     → (((done ++ numbered_card number card) ++ words) ++ 10 ∷ []) ++ only_from words (number + 1) rest ≡ done ++ only_from words number all
 unfolding only_from
 only_on words number card rest all done first = rw first (simp append_assoc)
 
 -- one card more of those that both decks have
-pub both_on : (number : ℕ) (one two : Card) (first second left right : List Card) (done : List ℕ) → left ≡ one ∷ first → right ≡ two ∷ second
+pub both_on : (number : ℕ) (one two : CardImage) (first second left right : List CardImage) (done : List ℕ) → left ≡ one ∷ first → right ≡ two ∷ second
     → (done ++ shown_of number one two) ++ shown_from (number + 1) first second ≡ done ++ shown_from number left right
 unfolding shown_from
 both_on number one two first second left right done is_left is_right =
     rw (is_left, is_right) (append_assoc done (shown_of number one two) (shown_from (number + 1) first second))
 
-pub differing_on : (one two : Card) (first second left right : List Card) (count : ℕ) → left ≡ one ∷ first → right ≡ two ∷ second
+pub differing_on : (one two : CardImage) (first second left right : List CardImage) (count : ℕ) → left ≡ one ∷ first → right ≡ two ∷ second
     → (count + differing_of one two) + differing_among first second ≡ count + differing_among left right
 unfolding differing_among
 differing_on one two first second left right count is_left is_right = rw (is_left, is_right) (omega arith)
 
 -- where one deck ends no card is in both
-none_both : (number : ℕ) (first second : List Card) → min (length first) (length second) ≡ 0 → shown_from number first second ≡ []
+none_both : (number : ℕ) (first second : List CardImage) → min (length first) (length second) ≡ 0 → shown_from number first second ≡ []
 unfolding shown_from
 none_both number [] second none = refl
 none_both number (one ∷ first) [] none = refl
 none_both number (one ∷ first) (two ∷ second) none = absurd (omega arith)
 
-none_differ : (first second : List Card) → min (length first) (length second) ≡ 0 → differing_among first second ≡ 0
+none_differ : (first second : List CardImage) → min (length first) (length second) ≡ 0 → differing_among first second ≡ 0
 unfolding differing_among
 none_differ [] second none = refl
 none_differ (one ∷ first) [] none = refl
 none_differ (one ∷ first) (two ∷ second) none = absurd (omega arith)
 
 -- behind the shorter deck all that both have was done
-pub both_done : (number : ℕ) (first second : List Card) (i : ℕ) (done whole : List ℕ) → min (length first) (length second) ≤ i
+pub both_done : (number : ℕ) (first second : List CardImage) (i : ℕ) (done whole : List ℕ) → min (length first) (length second) ≤ i
     → done ++ shown_from number (drop i first) (drop i second) ≡ whole → done ≡ whole
 both_done number first second i done whole end same =
     let none = none_both number (drop i first) (drop i second) (omega (arith, length-drop i first, length-drop i second)) in
     sym (append-nil done) ∙ ap (λ rest. done ++ rest) (sym none) ∙ same
 
-pub count_done : (first second : List Card) (i count whole : ℕ) → min (length first) (length second) ≤ i
+pub count_done : (first second : List CardImage) (i count whole : ℕ) → min (length first) (length second) ≤ i
     → count + differing_among (drop i first) (drop i second) ≡ whole → count ≡ whole
 count_done first second i count whole end same =
     let none = none_differ (drop i first) (drop i second) (omega (arith, length-drop i first, length-drop i second)) in
@@ -78,7 +79,7 @@ last_short before columns short eight =
     elim (is_some (number_of columns)) as (λ b. length (if b then columns else before) ≤ 8) [ true ↦ eight | false ↦ short ]
 
 -- one row more of a card
-pub row_on : (card : Card) (i : ℕ) (d : ℕ × ℕ) (start done : List ℕ) → i < 12
+pub row_on : (card : CardImage) (i : ℕ) (d : ℕ × ℕ) (start done : List ℕ) → i < 12
     → done ≡ start ++ flat_map (row_line card) (take i card_rows)
     → done ++ row_line card (get_or card_rows i d) ≡ start ++ flat_map (row_line card) (take (i + 1) card_rows)
 row_on card i d start done within before =

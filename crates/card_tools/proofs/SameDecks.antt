@@ -2,9 +2,15 @@
 use Rattle.std.proofs.Common.{◌≡◌, ℕ, ◌↔◌, true, List, [], ◌∷◌, length, refl, ap, sym, ◌∙◌, arith, eq-eqb}
 use Rattle.std.specs.List.{All}
 use Rattle.std.proofs.lemmas.List.Elements.{All-head, All-tail}
-use Rattle.cards.specs.Decks.{IsCard, IsDeck}
+use Rattle.cards.proofs.ReadingLaw.{deck_once}
+use Rattle.cards.specs.Decks.{IsDeck}
 use Rattle.cards.specs.declared.Card.{Card}
+use Rattle.card_forms.proofs.ImageDecks.{digit_lines, images_are}
+use Rattle.card_forms.specs.ImageFiles.{lines_of}
+use Rattle.card_forms.specs.Images.{IsImage, images_of}
 use Rattle.card_forms.specs.Signs.{are_blank}
+use Rattle.card_forms.specs.declared.columns.ColumnForm.TheVariants.{Digits}
+use Rattle.card_forms.specs.declared.images.CardImage.{CardImage}
 use Rattle.card_tools.specs.Comparing.{differing, differing_among, differing_of, marks_of}
 
 -- columns without a mark are the same
@@ -24,30 +30,43 @@ unfolding marks_of
 marks_none [] = refl
 marks_none (code ∷ codes) = rw (eq-eqb code code refl, marks_none codes) refl
 
-same_card : (one two : Card) → IsCard one → IsCard two → differing_of one two ≡ 0 → one ≡ two
+same_card : (one two : CardImage) → IsImage one → IsImage two → differing_of one two ≡ 0 → one ≡ two
 same_card one two is_one is_two none =
     let blank : are_blank (marks_of one.0 two.0) ≡ true = grind (arith, none) in
-    ap (λ (codes : List ℕ). let card : Card = record { 0 = codes } in card)
+    ap (λ (columns : List ℕ). let image : CardImage = record { 0 = columns } in image)
     (unmarked one.0 two.0 (is_one.0 ∙ sym is_two.0) blank)
 
-same_cards : (first second : List Card) → All IsCard first → All IsCard second → length first ≡ length second
+same_cards : (first second : List CardImage) → All IsImage first → All IsImage second → length first ≡ length second
     → differing_among first second ≡ 0 → first ≡ second
 unfolding differing_among
 same_cards [] [] each every long none = refl
 same_cards [] (two ∷ second) each every long none = absurd (omega arith)
 same_cards (one ∷ first) [] each every long none = absurd (omega arith)
 same_cards (one ∷ first) (two ∷ second) each every long none =
-    let head = same_card one two (All-head IsCard one first each) (All-head IsCard two second every) (omega (arith, none)) in
-    let rest = same_cards first second (All-tail IsCard one first each) (All-tail IsCard two second every) (omega arith) (omega (arith, none)) in
+    let head = same_card one two (All-head IsImage one first each) (All-head IsImage two second every) (omega (arith, none)) in
+    let rest = same_cards first second (All-tail IsImage one first each) (All-tail IsImage two second every) (omega arith) (omega (arith, none)) in
     rw (head, rest) refl
 
-none_among : (deck : List Card) → differing_among deck deck ≡ 0
+none_among : (deck : List CardImage) → differing_among deck deck ≡ 0
 unfolding differing_among
 none_among [] = refl
 none_among (card ∷ deck) = rw (marks_none card.0, none_among deck) refl
 
-pub same_decks : (first second : List Card) → IsDeck first → IsDeck second → (differing first second ≡ 0) ↔ (first ≡ second)
-same_decks first second is_first is_second = (
-  λ none. same_cards first second is_first.1 is_second.1 (omega (arith, none)) (omega (arith, none)),
+pub same_images : (first second : List CardImage) → All IsImage first → All IsImage second → (differing first second ≡ 0) ↔ (first ≡ second)
+same_images first second is_first is_second = (
+  λ none. same_cards first second is_first is_second (omega (arith, none)) (omega (arith, none)),
   λ same. rw (← same) (omega (arith, none_among first)),
 )
+
+-- two decks with the same images are the same
+same_deck : (first second : List Card) → IsDeck first → IsDeck second → images_of first ≡ images_of second → first ≡ second
+same_deck first second is_first is_second same =
+    deck_once _ first second is_first.1 is_second.1 (sym (digit_lines first) ∙ ap (lines_of Digits) same ∙ digit_lines second)
+
+pub same_decks : (first second : List Card) → IsDeck first → IsDeck second
+    → (differing (images_of first) (images_of second) ≡ 0) ↔ (first ≡ second)
+same_decks first second is_first is_second =
+    let both = same_images (images_of first) (images_of second) (images_are Digits first is_first.1) (images_are Digits second is_second.1) in (
+      λ none. same_deck first second is_first is_second (both.0 none),
+      λ same. both.1 (ap images_of same),
+    )

@@ -1,13 +1,21 @@
 -- lines of a manifest: a deck's digest and a name, and between them the number of its cards, or not
-use Rattle.std.specs.Prelude.{ℕ, ◌≡◌, ◌≢◌, ◌⊎◌, ◌==◌, Bool, true, ◌&&◌, ◌||◌, nat_le, nat_lt, List, [], ◌∷◌, ◌++◌, length, decimal}
+use Rattle.std.specs.Prelude.{ℕ, ◌≡◌, ◌≢◌, ◌⊎◌, ◌==◌, Bool, true, ◌&&◌, ◌||◌, nat_le, nat_lt, if◌then◌else◌, List, [], ◌∷◌, ◌++◌, length, decimal}
 use Rattle.std.specs.List.{All, list_all}
-use Rattle.cards.specs.declared.Card.{Card}
-use Rattle.cards.specs.Files.{text_of}
+use Rattle.card_forms.specs.ImageFiles.{image_file_of}
+use Rattle.card_forms.specs.Images.{are_characters}
+use Rattle.card_forms.specs.declared.forms.Form.{Form}
+use Rattle.card_forms.specs.declared.forms.Form.TheVariants.{Text, Punch}
+use Rattle.card_forms.specs.declared.images.CardImage.{CardImage}
 use Rattle.texts.specs.Digests as digests
 
--- the digest of a deck: that of its deck text
-abbrev pub digest_of : List Card → List ℕ
-digest_of deck = digests.digest_of (text_of deck)
+-- the form of which the digest of cards is: their deck text, or where a column is no character their
+-- punch file
+abbrev pub form_digested : List CardImage → Form
+form_digested images = if are_characters images then Text else Punch
+
+-- the digest of cards
+abbrev pub digest_of : List CardImage → List ℕ
+digest_of images = digests.digest_of (image_file_of (form_digested images) images)
 
 -- the line of a digest and what stands behind it, with two blanks between them
 abbrev pub digest_line : List ℕ → List ℕ → List ℕ
@@ -18,11 +26,11 @@ abbrev pub counted : List ℕ → List ℕ → List ℕ
 counted cards name = cards ++ 32 ∷ 32 ∷ name
 
 -- the line of a deck with a name, and a line feed: as `sha256sum` prints it of the deck's text
-abbrev pub manifest_line : List Card → List ℕ → List ℕ
+abbrev pub manifest_line : List CardImage → List ℕ → List ℕ
 manifest_line deck name = digest_line (digest_of deck) name ++ 10 ∷ []
 
 -- the same with the number of the deck's cards before the name
-abbrev pub counted_line : List Card → List ℕ → List ℕ
+abbrev pub counted_line : List CardImage → List ℕ → List ℕ
 counted_line deck name =
     digest_line (digest_of deck) (counted (decimal (length deck)) name) ++ 10 ∷ []
 

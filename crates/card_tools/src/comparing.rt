@@ -6,7 +6,7 @@ ghost use Rattle.card_tools.specs.Comparing.{both_shown, compared, differing, di
 
 use crate::lines::{push_barred, push_glyphs, push_numbered};
 use bcd::Code;
-use card_forms::filled;
+use card_forms::{CardImage, filled};
 use cards::{COLUMNS, Card};
 use std::alloc::{AllocError, Global};
 use texts::{push_decimal, push_number_between};
@@ -23,7 +23,7 @@ pub struct Comparison {
 /// Compares two decks card by card, and prints of each card that differs its number, both cards,
 /// and `^` under the columns in which they differ; then the cards that only one deck has, and in
 /// the last line how many cards there are and how many differ. Fails only if there is no memory.
-pub fn compare(alloc: Global, first: &[Card], second: &[Card]) -> Result<Comparison, AllocError>
+pub fn compare(alloc: Global, first: &[CardImage], second: &[CardImage]) -> Result<Comparison, AllocError>
     ensures text { IfOk result (λ found. found.text.items ≡ compared first.now second.now) }
     ensures differing { IfOk result (λ found. found.differing ≡ differing first.now second.now) }
 {
@@ -37,11 +37,11 @@ pub fn compare(alloc: Global, first: &[Card], second: &[Card]) -> Result<Compari
     Ok(Comparison { text, differing })
 }
 
-/// The character whose glyph is `^` where two characters differ, else the blank.
-fn mark(one: Code, two: Code) -> Code
+/// The character whose glyph is `^` where two patterns differ, else the blank.
+fn mark(one: u16, two: u16) -> Code
     ensures { result ≡ (if one == two then 0 else 16) }
 {
-    if one.number() == two.number() {
+    if one == two {
         return Code::blank();
     }
     match Code::from_number(16) {
@@ -51,7 +51,7 @@ fn mark(one: Code, two: Code) -> Code
 }
 
 /// The card with a mark in each column in which two others differ, whose columns these are.
-fn marks(one: &[Code], two: &[Code]) -> Card
+fn marks(one: &[u16], two: &[u16]) -> Card
     requires one { length one.now ≡ 80 }
     requires two { length two.now ≡ 80 }
     ensures { result.0 ≡ marks_of one.now two.now }
@@ -67,8 +67,8 @@ fn marks(one: &[Code], two: &[Code]) -> Card
 fn push_pair(
     text: &mut Vec<u8>,
     number: usize,
-    one: &Card,
-    two: &Card,
+    one: &CardImage,
+    two: &CardImage,
     marks: &[Code],
 ) -> Result<(), AllocError>
     requires { marks.now ≡ filled (marks_of one.now.0 two.now.0) }
@@ -88,8 +88,8 @@ fn push_pair(
 fn push_shown(
     text: &mut Vec<u8>,
     number: usize,
-    one: &Card,
-    two: &Card,
+    one: &CardImage,
+    two: &CardImage,
 ) -> Result<usize, AllocError>
     ensures shown { OnOk result (text.new.items
         ≡ text.old.items ++ shown_of number one.now two.now) }
@@ -105,7 +105,7 @@ fn push_shown(
 }
 
 /// Adds what is shown of the cards that both decks have, and returns how many of them differ.
-fn push_both(text: &mut Vec<u8>, first: &[Card], second: &[Card]) -> Result<usize, AllocError>
+fn push_both(text: &mut Vec<u8>, first: &[CardImage], second: &[CardImage]) -> Result<usize, AllocError>
     ensures shown { OnOk result (text.new.items
         ≡ text.old.items ++ shown_from 1 first.now second.now) }
     ensures differing { IfOk result (λ count. count ≡ differing_among first.now second.now) }
@@ -122,7 +122,7 @@ fn push_both(text: &mut Vec<u8>, first: &[Card], second: &[Card]) -> Result<usiz
 fn push_only(
     text: &mut Vec<u8>,
     words: &[u8],
-    cards: &[Card],
+    cards: &[CardImage],
     other: usize,
 ) -> Result<(), AllocError>
     ensures { OnOk result (text.new.items ≡ text.old.items

@@ -1,11 +1,10 @@
 //! Lines that show a card.
 
 ghost use Rattle.std.specs.Prelude.{◌≡◌, ◌++◌, replicate, OnOk};
-ghost use Rattle.card_tools.specs.Lines.{barred, glyphs_of, in_four, numbered_card};
+ghost use Rattle.card_tools.specs.Lines.{barred, columns_shown, glyphs_of, in_four, numbered_card};
 
 use bcd::Code;
-use card_forms::filled;
-use cards::Card;
+use card_forms::{CardImage, filled_columns, glyph_shown};
 use itoa::Buffer;
 use std::alloc::AllocError;
 
@@ -40,20 +39,35 @@ pub(crate) fn push_glyphs(out: &mut Vec<u8>, codes: &[Code]) -> Result<(), Alloc
     Ok(())
 }
 
-/// Adds the glyphs of a card up to the last column that is not blank, between bars.
-pub(crate) fn push_barred(out: &mut Vec<u8>, card: &Card) -> Result<(), AllocError>
-    ensures { OnOk result (out.new.items ≡ out.old.items ++ barred card.now) }
+/// Adds columns as they are shown.
+fn push_shown(out: &mut Vec<u8>, columns: &[u16]) -> Result<(), AllocError>
+    ensures { OnOk result (out.new.items ≡ out.old.items ++ columns_shown columns.now) }
+{
+    for pattern in columns {
+        out.push(glyph_shown(*pattern))?;
+    }
+    Ok(())
+}
+
+/// Adds a card up to the last column that is not blank, between bars.
+pub(crate) fn push_barred(out: &mut Vec<u8>, image: &CardImage) -> Result<(), AllocError>
+    ensures { OnOk result (out.new.items ≡ out.old.items ++ barred image.now) }
 {
     out.push(b'|')?;
-    push_glyphs(out, filled(card))?;
+    push_shown(out, filled_columns(image))?;
     out.push(b'|')?;
     Ok(())
 }
 
-/// Adds the number of a card and its glyphs.
-pub(crate) fn push_numbered(out: &mut Vec<u8>, number: usize, card: &Card) -> Result<(), AllocError>
-    ensures { OnOk result (out.new.items ≡ out.old.items ++ numbered_card number card.now) }
+/// Adds the number of a card at the right of four places, and the card up to the last column that is
+/// not blank, between bars. A column that is no character is shown as `~`.
+pub fn push_numbered(
+    out: &mut Vec<u8>,
+    number: usize,
+    image: &CardImage,
+) -> Result<(), AllocError>
+    ensures { OnOk result (out.new.items ≡ out.old.items ++ numbered_card number image.now) }
 {
     push_in_four(out, number)?;
-    push_barred(out, card)
+    push_barred(out, image)
 }

@@ -5,24 +5,26 @@ ghost use Rattle.std.specs.{
   Prelude.{◌≡◌, ◌≢◌, ◌++◌, ◌∷◌, ◌==◌, ℕ, List, [], true, false, IfOk, IfSome, IsNone, OnOk, position, nat_le, nat_lt, ◌&&◌},
   List.{list_all},
 };
-ghost use Rattle.card_tools.specs.Manifests.{BeginsWithField, HasCount, HasNoBlank, HasNoCount, IsEntry, IsName, counted_line, digest_line, digest_of, is_decimal, is_hexadecimal, manifest_line, may_be_digest, may_be_number};
+ghost use Rattle.card_forms.specs.ImageFiles.{image_file_of};
+ghost use Rattle.card_tools.specs.Manifests.{BeginsWithField, HasCount, HasNoBlank, HasNoCount, IsEntry, IsName, counted_line, digest_line, digest_of, form_digested, is_decimal, is_hexadecimal, manifest_line, may_be_digest, may_be_number};
 
-use cards::{Deck, write_text};
+use card_forms::{CardImage, Form, are_characters, write_images};
 use std::alloc::{AllocError, Global};
 use texts::{push_decimal, push_digest};
 
 /// What a line of a manifest says of a deck.
 #[derive(Clone, Copy, Debug)]
 pub struct ManifestEntry<'a> {
-    /// The SHA-256 of a deck's text, in 64 lower-case hexadecimal digits.
+    /// The SHA-256 of a deck's text or punch file, in 64 lower-case hexadecimal digits.
     pub digest: &'a [u8],
     /// The name.
     pub name: &'a [u8],
 }
 
 /// Returns the line of a manifest for a deck: the SHA-256 of its deck text (FIPS 180-4) in
-/// lower-case hexadecimal digits, two blanks, and the name. Fails only if there is no memory.
-pub fn manifest_line(alloc: Global, deck: &Deck, name: &[u8]) -> Result<Vec<u8>, AllocError>
+/// lower-case hexadecimal digits, two blanks, and the name. Of a deck with a column that is no
+/// character it is that of its punch file. Fails only if there is no memory.
+pub fn manifest_line(alloc: Global, deck: &[CardImage], name: &[u8]) -> Result<Vec<u8>, AllocError>
     ensures { IfOk result (λ line. line.items ≡ manifest_line deck.now name.now) }
 {
     line_with(alloc, deck, name)
@@ -30,24 +32,45 @@ pub fn manifest_line(alloc: Global, deck: &Deck, name: &[u8]) -> Result<Vec<u8>,
 
 /// Returns the same line with the number of the deck's cards before the name, and two blanks
 /// between them. Fails only if there is no memory.
-pub fn counted_line(alloc: Global, deck: &Deck, name: &[u8]) -> Result<Vec<u8>, AllocError>
+pub fn counted_line(alloc: Global, deck: &[CardImage], name: &[u8]) -> Result<Vec<u8>, AllocError>
     ensures { IfOk result (λ line. line.items ≡ counted_line deck.now name.now) }
 {
     let mut label = Vec::new(alloc);
-    push_decimal(&mut label, deck.cards().len())?;
+    push_decimal(&mut label, deck.len())?;
     label.extend_from_slice(b"  ")?;
     label.extend_from_slice(name)?;
     line_with(alloc, deck, &label)
 }
 
+/// The form of which the digest of a deck is.
+fn form_digested(deck: &[CardImage]) -> Form
+    ensures { result ≡ form_digested deck.now }
+{
+    if are_characters(deck) {
+        Form::Text
+    } else {
+        Form::Punch
+    }
+}
+
+/// The file of which the digest of a deck is.
+fn digested(alloc: Global, deck: &[CardImage]) -> Result<Vec<u8>, AllocError>
+    ensures { IfOk result (λ file. file.items ≡ image_file_of (form_digested deck.now) deck.now) }
+{
+    match write_images(alloc, form_digested(deck), deck) {
+        Ok(file) => Ok(file),
+        Err(_) => Err(AllocError),
+    }
+}
+
 /// The line of a deck's digest with this behind it, and a line feed.
-fn line_with(alloc: Global, deck: &Deck, label: &[u8]) -> Result<Vec<u8>, AllocError>
+fn line_with(alloc: Global, deck: &[CardImage], label: &[u8]) -> Result<Vec<u8>, AllocError>
     ensures { IfOk result (λ line. line.items
         ≡ digest_line (digest_of deck.now) label.now ++ 10 ∷ []) }
 {
-    let text = write_text(alloc, deck)?;
+    let file = digested(alloc, deck)?;
     let mut line = Vec::new(alloc);
-    push_digest(alloc, &mut line, &text)?;
+    push_digest(alloc, &mut line, &file)?;
     line.extend_from_slice(b"  ")?;
     line.extend_from_slice(label)?;
     line.push(b'\n')?;

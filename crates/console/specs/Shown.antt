@@ -3,6 +3,7 @@ use Rattle.std.specs.Prelude.{ℕ, zero, suc, ◌+◌, ◌-◌, ◌==◌, if◌t
 use Rattle.std.specs.List.{flat_map}
 use Rattle.core_store.specs.Storage.{Storage}
 use Rattle.autocoder.specs.Listing.{position_field}
+use Rattle.card_forms.specs.Images.{image_of}
 use Rattle.card_tools.specs.Listing.{listing}
 use Rattle.machine.specs.Run.{State, is_running, step}
 use Rattle.machine.specs.Standings.{standing_of, standing_words}
@@ -82,8 +83,8 @@ registers_shown m = registers_line m.works.registers m.works.units.printer.carri
 
 -- the cards that a machine has punched, as a listing of cards shows them
 abbrev pub cards_shown : List Punched → List ℕ
-cards_shown punched =
-    listing (record { ruler = false; punches = false }) (map (λ card. card.card) punched)
+cards_shown punched = listing (record { ruler = false; punches = false })
+    (map (λ card. image_of card.card) punched)
 
 -- a line as it was parsed, for a fault: its first word, and its second where it has one
 abbrev pub line_echo : List ℕ → List ℕ

@@ -2,6 +2,7 @@
 
 ghost use Rattle.std.specs.Prelude.{◌≡◌, ◌++◌, codes, map, IfOk, OnOk};
 ghost use Rattle.units.specs.Listing.{rendered};
+ghost use Rattle.card_forms.specs.Images.{image_of};
 ghost use Rattle.machine.specs.Run.{lines_of};
 ghost use Rattle.console.specs.{
   Answers.{Answers, action_shown, done, dump_shown, next, printed, question_shown},
@@ -12,8 +13,8 @@ ghost use Rattle.console.specs.{
 use crate::commands::{Action, Command, Question};
 use crate::sessions::Session;
 use crate::showing::{fault_words, push_bare, push_fault, push_help, push_stops};
+use card_forms::{CardImage, image_of};
 use card_tools::{ListOptions, list};
-use cards::Card;
 use run_traces::{DumpOptions, push_machine};
 use std::alloc::{AllocError, Global};
 use units::{Punched, render};
@@ -47,11 +48,15 @@ fn push_dump(
     push_machine(alloc, text, options, session.parts())
 }
 
-/// The cards that were punched.
-fn cards_of(alloc: Global, punched: &[Punched]) -> Result<Vec<Card>, AllocError>
-    ensures { IfOk result (λ cards. cards.items ≡ map (λ card. card.card) punched.now) }
+/// The images of the cards that were punched.
+fn images_of(alloc: Global, punched: &[Punched]) -> Result<Vec<CardImage>, AllocError>
+    ensures { IfOk result (λ images. images.items
+        ≡ map (λ card. image_of card.card) punched.now) }
 {
-    punched.iter().map(|card| card.card).collect(alloc)
+    punched
+        .iter()
+        .map(|card| image_of(&card.card))
+        .collect(alloc)
 }
 
 /// Adds the cards that were punched.
@@ -59,12 +64,12 @@ fn push_cards(alloc: Global, text: &mut Vec<u8>, session: &Session) -> Result<()
     ensures { OnOk result (text.new.items
         ≡ text.old.items ++ cards_shown session.now.machine.works.units.punch.cards) }
 {
-    let cards = cards_of(alloc, &session.parts().units.punch.cards)?;
+    let images = images_of(alloc, &session.parts().units.punch.cards)?;
     let options = ListOptions {
         ruler: false,
         punches: false,
     };
-    let shown = list(alloc, &cards, options)?;
+    let shown = list(alloc, &images, options)?;
     text.extend_from_slice(&shown)
 }
 

@@ -1,6 +1,7 @@
 -- the cards of a source with how often each was attempted
 use Rattle.std.specs.Prelude.{ℕ, ◌+◌, if◌then◌else◌, List, [], ◌∷◌, ◌++◌, replicate}
 use Rattle.cards.specs.declared.decks.Card.{Card}
+use Rattle.card_forms.specs.Images.{image_of}
 use Rattle.card_tools.specs.Lines.{numbered_card}
 use Rattle.autocoder_layout.specs.Slots.{is_instruction}
 use Rattle.autocoder_layout.specs.declared.slots.Slot.{Slot}
@@ -16,7 +17,7 @@ count_field counts slot =
 -- shows it
 unfoldable pub card_counted : (ℕ → ℕ) → ℕ → Slot → Card → List ℕ
 card_counted counts number slot card =
-    count_field counts slot ++ blank ∷ [] ++ numbered_card number card ++ 10 ∷ []
+    count_field counts slot ++ blank ∷ [] ++ numbered_card number (image_of card) ++ 10 ∷ []
 
 -- the lines of these cards, which are numbered from this number on
 unfoldable pub cards_counted : (ℕ → ℕ) → ℕ → List Card → List Slot → List ℕ

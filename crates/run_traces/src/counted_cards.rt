@@ -1,7 +1,6 @@
 //! The cards of a source with how often each was attempted.
 
 ghost use Rattle.std.specs.Prelude.{◌≡◌, ◌++◌, ℕ, OnOk};
-ghost use Rattle.card_tools.specs.Lines.{barred, numbered_card};
 ghost use Rattle.machine.specs.Run.{State};
 ghost use Rattle.run_traces.specs.{
   CountedCards.{card_counted, cards_counted, count_field},
@@ -10,9 +9,10 @@ ghost use Rattle.run_traces.specs.{
 
 use crate::counting::Begun;
 use crate::names::Names;
-use autocoder::{push_fillers, push_glyphs, push_number};
+use autocoder::{push_fillers, push_number};
 use autocoder_layout::Slot;
-use card_forms::filled;
+use card_forms::image_of;
+use card_tools::push_numbered;
 use cards::{Card, LINE_FEED};
 use std::alloc::AllocError;
 
@@ -42,23 +42,12 @@ fn push_count(line: &mut Vec<u8>, places: &[Begun], slot: &Slot) -> Result<(), A
     }
 }
 
-/// Adds the number of a card and its glyphs.
-fn push_numbered(line: &mut Vec<u8>, number: u64, card: &Card) -> Result<(), AllocError>
-    ensures { OnOk result (line.new.items ≡ line.old.items ++ numbered_card number card.now) }
-{
-    push_number(line, b' ', 4, number)?;
-    line.push(b'|')?;
-    push_glyphs(line, filled(card))?;
-    line.push(b'|')?;
-    Ok(())
-}
-
 /// Adds the line of a card.
 #[tactic(auto, unfolding(crate::specs::CountedCards::card_counted))]
 fn push_card(
     text: &mut Vec<u8>,
     places: &[Begun],
-    number: u64,
+    number: usize,
     slot: &Slot,
     card: &Card,
 ) -> Result<(), AllocError>
@@ -68,7 +57,7 @@ fn push_card(
 {
     push_count(text, places, slot)?;
     text.push(b' ')?;
-    push_numbered(text, number, card)?;
+    push_numbered(text, number, &image_of(card))?;
     text.push(LINE_FEED)?;
     Ok(())
 }
@@ -88,7 +77,7 @@ fn push_cards(
         if i >= slots.len() {
             return Ok(());
         }
-        push_card(text, places, i as u64 + 1, &slots[i], &cards[i])?;
+        push_card(text, places, i + 1, &slots[i], &cards[i])?;
     }
     Ok(())
 }

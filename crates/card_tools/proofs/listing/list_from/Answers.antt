@@ -5,13 +5,13 @@ use Rattle.card_tools.proofs.listing.list_from.Goals as goal
 
 pub loop-index-preserved : goal.loop-index-preserved
 loop-index-preserved c =
-    let left = left_from c.args.cards.now c.loop-index.index c.index-cards-index.result c.loop-index-test.true c.index-cards-index.is in
+    let left = left_from c.args.images.now c.loop-index.index c.index-images-index.result c.loop-index-test.true c.index-images-index.is in
     let further : c.args.first + (c.loop-index.index + 1) ≡ c.args.first + c.loop-index.index + 1 = omega arith in
     rw (c.in_ok-push_shown.ensures, further)
-    (listed_on c.args.options (c.args.first + c.loop-index.index) c.index-cards-index.result (drop (c.loop-index.index + 1) c.args.cards.now) (drop c.loop-index.index c.args.cards.now) c.loop-index.out.items left
+    (listed_on c.args.options (c.args.first + c.loop-index.index) c.index-images-index.result (drop (c.loop-index.index + 1) c.args.images.now) (drop c.loop-index.index c.args.images.now) c.loop-index.out.items left
     ∙ c.loop-index.invariant)
 
 pub returns : goal.returns
 unfolding listing_from
 returns c =
-    all_done (listing_from c.args.options (c.args.first + c.loop-index.index)) c.args.cards.now c.loop-index.index _ _ c.loop-index-test.false refl c.loop-index.invariant
+    all_done (listing_from c.args.options (c.args.first + c.loop-index.index)) c.args.images.now c.loop-index.index _ _ c.loop-index-test.false refl c.loop-index.invariant
