@@ -24,7 +24,7 @@ pub struct ImageFault {
 }
 
 /// The fault of a file for whose cards there is no memory.
-pub(crate) const OUT_OF_MEMORY: ImageFault = ImageFault {
+pub const NO_MEMORY: ImageFault = ImageFault {
     error: FormError::NoMemory,
     card: 0,
     column: 0,

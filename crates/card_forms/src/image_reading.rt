@@ -12,7 +12,7 @@ ghost use Rattle.card_forms.specs.{
 use crate::columns::{ColumnForm, split_end, split_pattern};
 use crate::faults::FormError;
 use crate::forms::Form;
-use crate::image_faults::{ImageFault, OUT_OF_MEMORY};
+use crate::image_faults::{ImageFault, NO_MEMORY};
 use crate::images::CardImage;
 use crate::punch_files::in_capitals;
 use crate::simh_texts::deck_text;
@@ -47,7 +47,7 @@ fn read_digits(alloc: Global, file: &[u8]) -> Result<Vec<CardImage>, ImageFault>
     ensures fault { IfErr result (λ fault. IsImageFault Form.Punch file.now fault) }
 {
     let Ok(capitals) = in_capitals(alloc, file) else {
-        return Err(OUT_OF_MEMORY);
+        return Err(NO_MEMORY);
     };
     read_cards(alloc, ColumnForm::Digits, &capitals)
 }
@@ -61,7 +61,7 @@ fn read_signs(alloc: Global, text: &[u8]) -> Result<Vec<CardImage>, ImageFault>
     ensures fault { IfErr result (λ fault. IsImageFault Form.Simh text.now fault) }
 {
     let Ok(glyphs) = deck_text(alloc, text) else {
-        return Err(OUT_OF_MEMORY);
+        return Err(NO_MEMORY);
     };
     read_cards(alloc, ColumnForm::Glyph, &glyphs)
 }
@@ -99,7 +99,7 @@ fn read_lines(
             Err(fault) => return Err(fault),
         };
         let Ok(()) = images.push(image) else {
-            return Err(OUT_OF_MEMORY);
+            return Err(NO_MEMORY);
         };
         rest = behind;
     }

@@ -9,7 +9,7 @@ ghost use Rattle.card_forms.specs.{
 
 use crate::columns::{ColumnForm, push_end, push_pattern};
 use crate::forms::Form;
-use crate::image_faults::{ImageFault, OUT_OF_MEMORY, first_odd};
+use crate::image_faults::{ImageFault, NO_MEMORY, first_odd};
 use crate::images::{CardImage, filled_columns, sign_shown};
 use cards::LINE_FEED;
 use std::alloc::{AllocError, Global};
@@ -29,7 +29,7 @@ pub fn write_images(alloc: Global, form: Form, images: &[CardImage]) -> Result<V
     }
     match written(alloc, form, images) {
         Ok(file) => Ok(file),
-        Err(_) => Err(OUT_OF_MEMORY),
+        Err(_) => Err(NO_MEMORY),
     }
 }
 

@@ -43,8 +43,9 @@ pub fn read_either(alloc: Global, bytes: &[u8]) -> Result<Deck, FormFault>
     read(alloc, form_told(bytes), bytes)
 }
 
-/// The form that the bytes before the first line feed tell.
-fn form_told(bytes: &[u8]) -> Form
+/// Returns the form that the bytes before the first line feed tell: of 240 of them a punch file, and
+/// else a text.
+pub fn form_told(bytes: &[u8]) -> Form
     ensures { result ≡ form_told bytes.now }
 {
     match feed_place(bytes) {

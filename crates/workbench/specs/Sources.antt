@@ -4,6 +4,7 @@ use Rattle.cards.specs.declared.Card.{Card}
 use Rattle.autocoder_layout.specs.Source.{source_of}
 use Rattle.autocoder_layout.specs.declared.card_faults.CardFault.{CardFault}
 use Rattle.autocoder_listings.specs.declared.widths.Width.{Width}
+use Rattle.card_forms.specs.Images.{images_of}
 use Rattle.card_tools.specs.Listing.{listing_from}
 use Rattle.card_tools.specs.declared.listing.ListOptions.{ListOptions}
 use Rattle.source_reports.specs.Reports.{faults_for, text_for}
@@ -14,8 +15,8 @@ plain = record { ruler = false; punches = false }
 
 -- the listing of the cards behind the source of a deck, with their numbers in the deck
 abbrev pub cards_behind : List Card → List ℕ
-cards_behind deck =
-    listing_from plain (length (source_of deck) + 1) (drop (length (source_of deck)) deck)
+cards_behind deck = listing_from plain (length (source_of deck) + 1)
+    (images_of (drop (length (source_of deck)) deck))
 
 -- the same if it is asked for and the source has no faults
 abbrev pub data_by : Bool → List CardFault → List Card → List ℕ

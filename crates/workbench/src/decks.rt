@@ -2,12 +2,14 @@
 
 ghost use Rattle.std.specs.Prelude.{◌≡◌, Option, IfOk};
 ghost use Rattle.cards.specs.Decks.{IsDeck};
-ghost use Rattle.card_forms.specs.Forms.{IsFileOf};
+ghost use Rattle.card_forms.specs.{Forms.{IsFileOf}, ImageFiles.{IsImageFile}};
 ghost use Rattle.workbench.specs.Decks.{form_of};
 
 use crate::characters::{tell_character, tell_remedy};
 use crate::undone::Undone;
-use card_forms::{Form, FormError, FormFault, read_either};
+use card_forms::{
+    CardImage, Form, FormError, FormFault, ImageFault, form_told, read_either, read_images,
+};
 use card_texts::remedy_of;
 use cards::Deck;
 use command_line::Status;
@@ -27,15 +29,23 @@ pub(crate) struct Named<'a> {
 /// How many bytes a card takes in column binary.
 const CARD_BYTES: usize = 160;
 
-/// The form in which a file is read as a deck, where this one may be named. Without one a file with
-/// 240 bytes before its first line feed is a punch file.
-fn form_read(form: Option<Form>, bytes: &[u8]) -> Form {
-    if let Some(form) = form {
-        return form;
+/// The form in which a file is read, where this one may be named: without one that which its first
+/// line tells.
+fn form_of(form: Option<Form>, bytes: &[u8]) -> Form
+    ensures { result ≡ form_of form bytes.now }
+{
+    match form {
+        Some(form) => form,
+        None => form_told(bytes),
     }
-    match bytes.iter().position(|byte| *byte == b'\n') {
-        Some(240) => Form::Punch,
-        _ => Form::Text,
+}
+
+/// A fault of a file that was read as a deck, among those of files of any number of cards.
+pub(crate) fn fault_of_deck(fault: FormFault) -> ImageFault {
+    ImageFault {
+        error: fault.error,
+        card: usize::from(fault.card),
+        column: fault.column,
     }
 }
 
@@ -46,7 +56,7 @@ fn is_column_binary(bytes: &[u8]) -> bool {
 
 /// Whether the subcommand `punch` takes a byte that is no glyph: a small letter, a tab, a part of a
 /// line's end, the end of a text, or the first byte of the mark at the front.
-fn is_punched(fault: FormFault, byte: u8) -> bool {
+fn is_punched(fault: ImageFault, byte: u8) -> bool {
     match byte {
         b'a'..=b'z' | b'\t' | b'\r' | 0x1A => true,
         0xEF => fault.card == 1 && fault.column == 1,
@@ -61,20 +71,20 @@ fn byte_at(bytes: &[u8], place: usize) -> u8 {
 
 /// The first four bytes of the character at the place of a fault in a deck text, filled up with
 /// zeros.
-fn character_at(bytes: &[u8], fault: FormFault) -> [u8; 4] {
-    let cards = usize::from(fault.card).saturating_sub(1);
+fn character_at(bytes: &[u8], fault: ImageFault) -> [u8; 4] {
+    let cards = fault.card.saturating_sub(1);
     let columns = usize::from(fault.column).saturating_sub(1);
-    let place = 81 * cards + columns;
+    let place = cards.saturating_mul(81).saturating_add(columns);
     [
         byte_at(bytes, place),
-        byte_at(bytes, place + 1),
-        byte_at(bytes, place + 2),
-        byte_at(bytes, place + 3),
+        byte_at(bytes, place.saturating_add(1)),
+        byte_at(bytes, place.saturating_add(2)),
+        byte_at(bytes, place.saturating_add(3)),
     ]
 }
 
 /// The way out for a deck text.
-fn way_out_of_text(bytes: &[u8], fault: FormFault) -> &'static str {
+fn way_out_of_text(bytes: &[u8], fault: ImageFault) -> &'static str {
     if is_column_binary(bytes) {
         return "; workbench convert IN OUT binary text takes column binary";
     }
@@ -88,7 +98,7 @@ fn way_out_of_text(bytes: &[u8], fault: FormFault) -> &'static str {
 }
 
 /// The way out for a text of SimH.
-fn way_out_of_signs(fault: FormFault) -> &'static str {
+fn way_out_of_signs(fault: ImageFault) -> &'static str {
     match fault.error {
         FormError::Length => "; workbench punch --signs simh says how long it is",
         FormError::Sign(byte) if is_punched(fault, byte) => {
@@ -100,7 +110,7 @@ fn way_out_of_signs(fault: FormFault) -> &'static str {
 }
 
 /// The way out for column binary.
-fn way_out_of_binary(bytes: &[u8], fault: FormFault) -> &'static str {
+fn way_out_of_binary(bytes: &[u8], fault: ImageFault) -> &'static str {
     match fault.error {
         FormError::Length if bytes.len() % 2 == 1 => {
             "; it has an odd number of bytes, and a column has two"
@@ -112,13 +122,14 @@ fn way_out_of_binary(bytes: &[u8], fault: FormFault) -> &'static str {
 }
 
 /// Whether a carriage return stands behind the digits of a card in a punch file.
-fn is_returned(bytes: &[u8], fault: FormFault) -> bool {
-    let cards = usize::from(fault.card).saturating_sub(1);
-    fault.column == 81 && byte_at(bytes, 241 * cards + 240) == b'\r'
+fn is_returned(bytes: &[u8], fault: ImageFault) -> bool {
+    let cards = fault.card.saturating_sub(1);
+    let place = cards.saturating_mul(241).saturating_add(240);
+    fault.column == 81 && byte_at(bytes, place) == b'\r'
 }
 
 /// The way out for a punch file.
-fn way_out_of_digits(bytes: &[u8], fault: FormFault) -> &'static str {
+fn way_out_of_digits(bytes: &[u8], fault: ImageFault) -> &'static str {
     match fault.error {
         FormError::Length if is_returned(bytes, fault) => {
             "; a line ends with a line feed alone, and here a carriage return is before it"
@@ -128,7 +139,7 @@ fn way_out_of_digits(bytes: &[u8], fault: FormFault) -> &'static str {
 }
 
 /// The way out of a fault of a file, if there is one.
-fn way_out(form: Form, bytes: &[u8], fault: FormFault) -> &'static str {
+fn way_out(form: Form, bytes: &[u8], fault: ImageFault) -> &'static str {
     match form {
         Form::Text => way_out_of_text(bytes, fault),
         Form::Simh => way_out_of_signs(fault),
@@ -177,7 +188,7 @@ fn tell_byte<E: Write>(errors: &mut E, byte: u8) -> io::Result<()> {
 fn tell_glyph<E: Write>(
     errors: &mut E,
     bytes: &[u8],
-    fault: FormFault,
+    fault: ImageFault,
     byte: u8,
 ) -> io::Result<()> {
     let is_told = is_punched(fault, byte) || is_column_binary(bytes);
@@ -194,12 +205,16 @@ fn tell_glyph<E: Write>(
     tell_remedy(errors, remedy_of(&character))
 }
 
+/// What is said of a deck of over 2,000 cards where it is to be read as a machine reads it.
+pub(crate) const TOO_MANY_CARDS: &str = "more than 2,000 cards, and a bureau's machine reads no \
+    more; workbench cut makes decks of parts";
+
 /// Writes what is wrong with a file of a deck.
 fn tell_wrong<E: Write>(
     errors: &mut E,
     form: Form,
     bytes: &[u8],
-    fault: FormFault,
+    fault: ImageFault,
 ) -> io::Result<()> {
     match fault.error {
         FormError::NoMemory => Ok(()),
@@ -215,7 +230,7 @@ fn tell_wrong<E: Write>(
             errors.write_all(&digits)?;
             errors.write_all(b" is no character")
         }
-        FormError::TooManyCards => errors.write_all(b"more than 2,000 cards; make two decks of it"),
+        FormError::TooManyCards => errors.write_all(TOO_MANY_CARDS.as_bytes()),
     }
 }
 
@@ -225,13 +240,13 @@ pub(crate) fn tell_form_fault<E: Write>(
     errors: &mut E,
     file: Named<'_>,
     form: Option<Form>,
-    fault: FormFault,
+    fault: ImageFault,
 ) -> io::Result<Undone> {
     if let FormError::NoMemory = fault.error {
         return Ok(Undone::Memory);
     }
     let Named { path, bytes } = file;
-    let form = form_read(form, bytes);
+    let form = form_of(form, bytes);
     let card = fault.card;
     let column = fault.column;
     write!(errors, "{path}: card {card} column {column}: ")?;
@@ -250,4 +265,17 @@ pub(crate) fn read_as(alloc: Global, form: Option<Form>, bytes: &[u8]) -> Result
         Some(form) => card_forms::read(alloc, form, bytes),
         None => read_either(alloc, bytes),
     }
+}
+
+/// Reads cards of any number and any patterns from a file in a form, or in that which its first line
+/// tells.
+pub(crate) fn read_images_as(
+    alloc: Global,
+    form: Option<Form>,
+    bytes: &[u8],
+) -> Result<Vec<CardImage>, ImageFault>
+    ensures { IfOk result (λ images.
+        IsImageFile (form_of form bytes.now) bytes.now images.items) }
+{
+    read_images(alloc, form_of(form, bytes), bytes)
 }

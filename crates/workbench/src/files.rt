@@ -5,10 +5,14 @@ use std::io;
 use std::io::{ErrorKind, Write};
 use texts::read_up_to;
 
-/// How many bytes of a file are read at most: many times what 2,000 cards take in any form.
-const MOST_BYTES: u64 = 8_000_000;
+/// How many bytes of a file are read at most: those of 132,780 cards in a punch file, and of more in
+/// the other forms.
+const MOST_BYTES: u64 = 32_000_000;
 
-/// The bytes of what was read; none if there are more than any deck takes.
+/// What is said of a file that has more.
+pub(crate) const TOO_LONG: &str = "it has more than 32,000,000 bytes";
+
+/// The bytes of what was read; none if there are too many.
 fn whole(bytes: Vec<u8>) -> Option<Vec<u8>> {
     if bytes.len() as u64 > MOST_BYTES {
         return None;
@@ -16,8 +20,7 @@ fn whole(bytes: Vec<u8>) -> Option<Vec<u8>> {
     Some(bytes)
 }
 
-/// The bytes of the file at a path, or of the standard input for `-`; none if it has more than any
-/// deck takes.
+/// The bytes of the file at a path, or of the standard input for `-`; none if it has too many.
 pub(crate) fn bytes_at(rt: &HostRuntime, path: &str) -> io::Result<Option<Vec<u8>>> {
     if path == "-" {
         return Ok(whole(read_up_to(rt.alloc(), rt.stdin(), MOST_BYTES + 1)?));

@@ -1,14 +1,14 @@
 //! The subcommand `intake`.
 
-use crate::files::{bytes_at, tell_unread, tell_unwritten};
+use crate::files::{TOO_LONG, bytes_at, tell_unread, tell_unwritten};
 use crate::folders::files_of;
 use crate::manifests::{hindrance_of, lines_of};
 use crate::process::{Process, status_if};
 use crate::taking::{copy_of, push_taken, taken};
 use crate::undone::Undone;
+use card_forms::{Form, read_images};
 use card_texts::{Reading, Rules, Signs};
 use card_tools::manifest_line;
-use cards::read_text;
 use command_line::Status;
 use local_runs::replace_file;
 use std::alloc::{AllocError, Global};
@@ -16,9 +16,6 @@ use std::io::{ErrorKind, Write};
 use std::path::PathBuf;
 use std::{fs, io};
 use workbench_arguments::Intake;
-
-/// What is said of a file with more bytes than any deck.
-const TOO_LONG: &[u8] = b"it has more bytes than any deck of 2,000 cards\n";
 
 /// What became of the files so far.
 #[derive(Drop)]
@@ -58,6 +55,12 @@ impl Tally {
     fn push_refused(&mut self, path: &str, why: &[u8]) -> Result<(), AllocError> {
         self.refuse(path)?;
         self.refused.extend_from_slice(why)
+    }
+
+    /// Adds the line of a file that is refused for this.
+    fn push_refused_line(&mut self, path: &str, why: &str) -> Result<(), AllocError> {
+        self.push_refused(path, why.as_bytes())?;
+        self.refused.extend_from_slice(b"\n")
     }
 
     /// The line with the counts.
@@ -123,7 +126,7 @@ fn push_digest(
     place: Destination<'_>,
     text: &[u8],
 ) -> Result<(), Undone> {
-    let Ok(deck) = read_text(alloc, text) else {
+    let Ok(deck) = read_images(alloc, Form::Text, text) else {
         return Err(Undone::Memory);
     };
     let line = manifest_line(alloc, &deck, place.target.as_bytes())?;
@@ -230,13 +233,11 @@ fn take_file<W: Write, E: Write>(
     let alloc = process.alloc();
     let mut told = Vec::new(alloc);
     if let Some(why) = hindrance_of(place.target.as_bytes()) {
-        told.extend_from_slice(why.as_bytes())?;
-        told.extend_from_slice(b"\n")?;
-        return Ok(tally.push_refused(place.path, &told)?);
+        return Ok(tally.push_refused_line(place.path, why)?);
     }
     let bytes = match bytes_at(&process.rt, place.path) {
         Ok(Some(bytes)) => bytes,
-        Ok(None) => return Ok(tally.push_refused(place.path, TOO_LONG)?),
+        Ok(None) => return Ok(tally.push_refused_line(place.path, TOO_LONG)?),
         Err(error) => return Ok(tally.push_unread(alloc, place.path, &error)?),
     };
     match taken(alloc, rules, named, &bytes, &mut told)? {

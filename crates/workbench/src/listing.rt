@@ -12,8 +12,8 @@ pub(crate) fn list_deck<W: Write, E: Write>(
     path: &str,
     options: ListOptions,
 ) -> Result<Status, Undone> {
-    let deck = process.deck_at(path)?;
-    let text = list(process.alloc(), deck.cards(), options)?;
+    let images = process.images_at(path)?;
+    let text = list(process.alloc(), &images, options)?;
     process.print(&text, Status::Done)
 }
 
@@ -23,8 +23,8 @@ pub(crate) fn compare_decks<W: Write, E: Write>(
     one: &str,
     other: &str,
 ) -> Result<Status, Undone> {
-    let first = process.deck_at(one)?;
-    let second = process.deck_at(other)?;
-    let found = compare(process.alloc(), first.cards(), second.cards())?;
+    let first = process.images_at(one)?;
+    let second = process.images_at(other)?;
+    let found = compare(process.alloc(), &first, &second)?;
     process.print(&found.text, status_if(found.differing == 0))
 }

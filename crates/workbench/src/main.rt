@@ -10,6 +10,7 @@
 mod benching;
 mod characters;
 mod converting;
+mod cutting;
 mod decks;
 mod drawing;
 mod files;
@@ -29,6 +30,7 @@ mod undone;
 
 use crate::benching::{dump_deck, profile_deck, trace_deck};
 use crate::converting::convert;
+use crate::cutting::{Cutting, Ends, cut_deck};
 use crate::drawing::{draw_card, draw_deck, draw_pages};
 use crate::filing::write_page;
 use crate::intake::take_in;
@@ -77,6 +79,26 @@ fn work<W: Write, E: Write>(
             reads,
             writes,
         } => convert(process, (deck, *reads), (out, *writes)),
+        Task::Cut {
+            deck,
+            out,
+            first,
+            last,
+        } => {
+            let (deck, out) = (*deck, *out);
+            let ends = Ends::Places(*first as usize, *last as usize);
+            cut_deck(process, Cutting { deck, out, ends })
+        }
+        Task::CutNumbers {
+            deck,
+            out,
+            first,
+            last,
+        } => {
+            let (deck, out) = (*deck, *out);
+            let ends = Ends::Numbers(*first, *last);
+            cut_deck(process, Cutting { deck, out, ends })
+        }
         Task::Source {
             source,
             narrow,

@@ -1,17 +1,15 @@
 //! The subcommand `manifest`.
 
 ghost use Rattle.std.specs.Prelude.{◌≡◌, ◌<◌, List, length, IfOk};
-ghost use Rattle.cards.specs.{Decks.{IsDeck}, declared.Card.{Card}};
-ghost use Rattle.card_forms.specs.Forms.{IsFileOf};
+ghost use Rattle.card_forms.specs.{ImageFiles.{IsImageFile}, declared.images.CardImage.{CardImage}};
 ghost use Rattle.workbench.specs.Decks.{form_of, line_by};
 
-use crate::decks::{Named, read_as, tell_form_fault};
+use crate::decks::{Named, read_images_as, tell_form_fault};
 use crate::folders::{Found, files_of};
 use crate::process::{Process, status_if};
 use crate::undone::Undone;
-use card_forms::{Form, FormFault, OUT_OF_MEMORY};
+use card_forms::{CardImage, Form, ImageFault, NO_MEMORY};
 use card_tools::{ManifestEntry, counted_line, has_count, manifest_line, read_manifest_line};
-use cards::Deck;
 use command_line::Status;
 use std::alloc::{AllocError, Global};
 use std::io::Write;
@@ -29,7 +27,12 @@ pub(crate) struct Listing<'a> {
 }
 
 /// The line of a deck with this name, with the number of its cards if that is asked for.
-fn line_by(alloc: Global, counts: bool, deck: &Deck, name: &[u8]) -> Result<Vec<u8>, AllocError>
+fn line_by(
+    alloc: Global,
+    counts: bool,
+    deck: &[CardImage],
+    name: &[u8],
+) -> Result<Vec<u8>, AllocError>
     ensures { IfOk result (λ line. line.items ≡ line_by counts deck.now name.now) }
 {
     if counts {
@@ -46,15 +49,15 @@ fn line_of(
     form: Option<Form>,
     counts: bool,
     bytes: &[u8],
-) -> Result<Vec<u8>, FormFault>
-    ensures { IfOk result (λ line. (cards : List Card) × IsDeck cards
-        × IsFileOf (form_of form bytes.now) bytes.now cards
-        × (line.items ≡ line_by counts cards name.now)) }
+) -> Result<Vec<u8>, ImageFault>
+    ensures { IfOk result (λ line. (images : List CardImage)
+        × IsImageFile (form_of form bytes.now) bytes.now images
+        × (line.items ≡ line_by counts images name.now)) }
 {
-    let deck = read_as(alloc, form, bytes)?;
+    let deck = read_images_as(alloc, form, bytes)?;
     match line_by(alloc, counts, &deck, name.as_bytes()) {
         Ok(line) => Ok(line),
-        Err(_) => Err(OUT_OF_MEMORY),
+        Err(_) => Err(NO_MEMORY),
     }
 }
 

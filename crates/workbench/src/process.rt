@@ -2,9 +2,10 @@
 
 ghost use Rattle.std.specs.Prelude.{◌<◌, length, IfOk};
 
-use crate::decks::{Named, read_as, tell_form_fault};
-use crate::files::{bytes_at, tell_unread, tell_unwritten};
+use crate::decks::{Named, fault_of_deck, read_as, read_images_as, tell_form_fault};
+use crate::files::{TOO_LONG, bytes_at, tell_unread, tell_unwritten};
 use crate::undone::Undone;
+use card_forms::CardImage;
 use cards::Deck;
 use command_line::{Status, put_out};
 use local_runs::replace_file;
@@ -79,7 +80,7 @@ impl<W: Write, E: Write> Process<W, E> {
     pub(crate) fn read(&mut self, path: &str) -> Result<Vec<u8>, Undone> {
         match bytes_at(&self.rt, path) {
             Ok(Some(bytes)) => Ok(bytes),
-            Ok(None) => Err(self.refuse(path, "it has more bytes than any deck of 2,000 cards")?),
+            Ok(None) => Err(self.refuse(path, TOO_LONG)?),
             Err(error) => {
                 tell_unread(&mut self.errors, path, &error)?;
                 Err(Undone::Told(Status::NotDone))
@@ -92,6 +93,21 @@ impl<W: Write, E: Write> Process<W, E> {
         let bytes = self.read(path)?;
         match read_as(self.alloc(), None, &bytes) {
             Ok(deck) => Ok(deck),
+            Err(fault) => {
+                let file = Named {
+                    path,
+                    bytes: &bytes,
+                };
+                Err(tell_form_fault(&mut self.errors, file, None, fault_of_deck(fault))?)
+            }
+        }
+    }
+
+    /// The cards in the file at a path, a text or a punch file: of any number and any patterns.
+    pub(crate) fn images_at(&mut self, path: &str) -> Result<Vec<CardImage>, Undone> {
+        let bytes = self.read(path)?;
+        match read_images_as(self.alloc(), None, &bytes) {
+            Ok(images) => Ok(images),
             Err(fault) => {
                 let file = Named {
                     path,

@@ -5,6 +5,7 @@ ghost use Rattle.card_texts.specs.Punching.{deck_text_of, faults_of};
 ghost use Rattle.workbench.specs.Punching.{IsSum, count_told, empty_told, is_empty_line, numbers_told, sum_line, tabs_of};
 
 use crate::characters::{tell_character, tell_remedy};
+use crate::decks::TOO_MANY_CARDS;
 use crate::process::Process;
 use crate::undone::Undone;
 use card_texts::{Change, Rules, TextError, TextFault, Unpunched, changes, punch, remedy_of};
@@ -39,7 +40,7 @@ pub(crate) fn tell_text_fault<E: Write>(errors: &mut E, fault: TextFault) -> io:
     if let TextError::TooManyCards = fault.error {
         return writeln!(
             errors,
-            "line {line}: more than 2,000 cards; make two decks of it"
+            "line {line}: {TOO_MANY_CARDS} of a deck text"
         );
     }
     write!(errors, "line {line} column {column}: ")?;

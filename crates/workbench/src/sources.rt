@@ -9,6 +9,7 @@ use crate::process::{Process, status_if};
 use crate::undone::Undone;
 use autocoder_layout::source_of;
 use autocoder_listings::Width;
+use card_forms::images_of;
 use card_tools::{ListOptions, list_from};
 use cards::Deck;
 use command_line::Status;
@@ -43,7 +44,8 @@ fn cards_behind(alloc: Global, deck: &Deck) -> Result<Vec<u8>, AllocError>
         ruler: false,
         punches: false,
     };
-    list_from(alloc, source + 1, &cards[source..], options)
+    let images = images_of(alloc, &cards[source..])?;
+    list_from(alloc, source + 1, &images, options)
 }
 
 /// Adds the cards behind the source of a deck, where they are asked for and the source has no

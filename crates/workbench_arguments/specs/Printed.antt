@@ -3,7 +3,7 @@ use Rattle.std.specs.Prelude.{List, ℕ, Option, Some, None, codes}
 use Rattle.command_line.specs.Versions.{version_of}
 use Rattle.workbench_arguments.specs.declared.subcommands.Subcommand.{Subcommand}
 use Rattle.workbench_arguments.specs.declared.subcommands.Subcommand.TheVariants as name
-use Rattle.workbench_arguments.specs.declared.help.TheConstants.{CARD_HELP, COMPARE_HELP, CONSOLE_HELP, CONVERT_HELP, DECK_HELP, DUMP_HELP, HELP, INTAKE_HELP, LIST_HELP, MANIFEST_HELP, PAGE_HELP, PAGES_HELP, PROFILE_HELP, PUNCH_HELP, SEQUENCE_HELP, SOURCE_HELP, TRACE_HELP}
+use Rattle.workbench_arguments.specs.declared.help.TheConstants.{CARD_HELP, COMPARE_HELP, CONSOLE_HELP, CONVERT_HELP, CUT_HELP, DECK_HELP, DUMP_HELP, HELP, INTAKE_HELP, LIST_HELP, MANIFEST_HELP, PAGE_HELP, PAGES_HELP, PROFILE_HELP, PUNCH_HELP, SEQUENCE_HELP, SOURCE_HELP, TRACE_HELP}
 
 -- the text of the help of a subcommand, or of the whole help
 abbrev pub page_of : Option Subcommand → List ℕ
@@ -13,6 +13,7 @@ page_of (Some name.List) = LIST_HELP.now
 page_of (Some name.Compare) = COMPARE_HELP.now
 page_of (Some name.Sequence) = SEQUENCE_HELP.now
 page_of (Some name.Convert) = CONVERT_HELP.now
+page_of (Some name.Cut) = CUT_HELP.now
 page_of (Some name.Source) = SOURCE_HELP.now
 page_of (Some name.Manifest) = MANIFEST_HELP.now
 page_of (Some name.Intake) = INTAKE_HELP.now

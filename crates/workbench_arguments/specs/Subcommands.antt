@@ -46,6 +46,13 @@ workbench = record {
         codes "convert IN OUT FROM TO",
       )
       ∷ (
+        name.Cut,
+        codes "cut",
+        (codes "IN", Value) ∷ (codes "OUT", Value) ∷ (codes "FIRST", Value)
+            ∷ (codes "LAST", Value) ∷ (codes "numbers", Flag) ∷ [],
+        codes "cut IN OUT FIRST LAST [--numbers]",
+      )
+      ∷ (
         name.Source,
         codes "source",
         (codes "IN", Value) ∷ (codes "data", Flag) ∷ (codes "width", Setting) ∷ [],

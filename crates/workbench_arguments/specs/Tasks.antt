@@ -1,5 +1,5 @@
 -- the tasks that arguments ask for
-use Rattle.std.specs.Prelude.{ℕ, ◌≡◌, Bool, false, List, [], Option, None, codes, decimal, map, unwrap_or}
+use Rattle.std.specs.Prelude.{ℕ, ◌≡◌, Bool, false, true, List, [], Option, None, codes, decimal, map, unwrap_or}
 use Rattle.clap.specs.Words.{Row, Text, all_of, first_of}
 use Rattle.core_store.specs.Storage.{positions_of}
 use Rattle.units.specs.Switches.{AreSeven}
@@ -20,7 +20,7 @@ use Rattle.workbench_arguments.specs.declared.subcommands.Subcommand.{Subcommand
 use Rattle.workbench_arguments.specs.declared.subcommands.Subcommand.TheVariants as name
 use Rattle.workbench_arguments.specs.declared.tasks.Setup.{Setup}
 use Rattle.workbench_arguments.specs.declared.tasks.Task.{Task}
-use Rattle.workbench_arguments.specs.declared.tasks.Task.TheVariants.{Show, Punch, List as ListCards, Compare, Convert, Number, CheckNumbers, Source, Manifest, Trace, Dump, Profile, Console, Card, Deck, Pages, Page, Intake}
+use Rattle.workbench_arguments.specs.declared.tasks.Task.TheVariants.{Show, Punch, List as ListCards, Compare, Convert, Cut, CutNumbers, Number, CheckNumbers, Source, Manifest, Trace, Dump, Profile, Console, Card, Deck, Pages, Page, Intake}
 
 -- these are the columns of `--tabs`, or none where it is not given
 abbrev pub HasTabs : List Row → List ℕ → Type 0
@@ -100,6 +100,17 @@ WantsConvert found (Convert deck out reads writes) = HasArgument (codes "IN") fo
     × HasArgument (codes "OUT") found out.now × HasArgument (codes "FROM") found (word_of reads)
     × HasArgument (codes "TO") found (word_of writes)
 WantsConvert found other = ⊥
+
+-- the task of `cut`: by the places of the first and the last card, or by `--numbers` by what stands
+-- on them
+abbrev pub WantsCut : List Row → Task → Type 0
+WantsCut found (Cut deck out first last) = HasArgument (codes "IN") found deck.now
+    × HasArgument (codes "OUT") found out.now × WantsNumber (codes "FIRST") found first
+    × WantsNumber (codes "LAST") found last × (has_flag (codes "numbers") found ≡ false)
+WantsCut found (CutNumbers deck out first last) = HasArgument (codes "IN") found deck.now
+    × HasArgument (codes "OUT") found out.now × HasArgument (codes "FIRST") found first.now
+    × HasArgument (codes "LAST") found last.now × (has_flag (codes "numbers") found ≡ true)
+WantsCut found other = ⊥
 
 -- this is whether `--width` asks for 80 columns; without it the listing has 120 and more
 abbrev pub IsNarrow : List Row → Bool → Type 0
@@ -209,6 +220,7 @@ WantsTask name.Sequence found task = WantsSequence found task
 WantsTask name.Source found task = WantsSource found task
 WantsTask name.Manifest found task = WantsManifest found task
 WantsTask name.Convert found task = WantsConvert found task
+WantsTask name.Cut found task = WantsCut found task
 WantsTask name.Intake found task = WantsIntake found task
 WantsTask name.Trace found task = WantsTrace found task
 WantsTask name.Dump found task = WantsDump found task

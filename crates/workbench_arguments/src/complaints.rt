@@ -28,6 +28,10 @@ pub(crate) const NO_WIDTH: &str = "--width must be 80 or 120";
 pub(crate) const NO_FIRST_NUMBER: &str =
     "FIRST must be a number of 1 to 9 digits without a zero in front";
 
+/// Of LAST, which is no number.
+pub(crate) const NO_LAST_NUMBER: &str =
+    "LAST must be a number of 1 to 9 digits without a zero in front";
+
 /// Of STEP, which is no number.
 pub(crate) const NO_STEP: &str = "STEP must be a number of 1 to 9 digits without a zero in front";
 

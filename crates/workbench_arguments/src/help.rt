@@ -18,6 +18,7 @@ usage: workbench SUBCOMMAND ARGUMENTS.. [OPTIONS]
   sequence IN OUT IDENT FIRST STEP      numbers the cards in columns 73 to 80
   sequence IN                           prints where these numbers do not rise
   convert IN OUT FROM TO                makes a deck of one form one of another
+  cut IN OUT FIRST LAST [--numbers]     makes a deck of some cards of another
   source IN [--data] [--width WIDTH]    prints a source with its code, or faults
   manifest FILE.. [OPTIONS]             prints digests of decks, or compares
   intake FOLDER OUT [OPTIONS]           takes each file of a folder as a deck
@@ -42,7 +43,10 @@ straight, and a full disk may leave a part.
 
 A deck is a deck text (80 glyphs a line) or a punch file (240 hexadecimal digits
 a line), which is what `bureau export` writes; subcommands with no other form
-tell them by their width. punch makes a deck text of any other text.
+tell them by their width. punch makes a deck text of any other text. Columns
+that are no characters, in a punch file, and more than 2,000 cards are taken by
+list, compare, convert, cut, manifest, card and deck. The others take what a
+bureau's machine reads: at most 2,000 cards of characters.
 
 exit status:
   0  all was done, and nothing was found
@@ -95,6 +99,8 @@ DECK       a deck text or a punch file
 --punches  the rows 12, 11 and 0 to 9 stand under each card, with a mark for
            each hole
 
+A column whose holes are no character's is shown as ~, which is none of the 64.
+
 example:
   workbench list examples/two_lines.deck --ruler
 ";
@@ -109,8 +115,10 @@ ONE, OTHER  two deck texts or punch files, in any pair
 example:
   workbench compare ACME-9.cards expected.deck
 
-Under two cards with one number stands a ^ for each column that differs. Status
-0: the decks are the same. Status 1: they differ, or one cannot be read.
+Under two cards with one number stands a ^ for each column that differs. A
+column whose holes are no character's is shown as ~; two of them differ where
+their holes do. Status 0: the decks are the same. Status 1: they differ, or one
+cannot be read.
 ";
 
 /// The text that `sequence --help` prints.
@@ -150,7 +158,28 @@ example:
   workbench convert ACME-9.cards ACME-9.deck punch text
 
 The form is always named and never guessed: a text that holds \", = or + is a
-good deck both as glyphs and as SimH's signs, with another meaning.
+good deck both as glyphs and as SimH's signs, with another meaning. Of a punch
+file column binary is made, and the other way round, with every hole and of any
+number of cards. A text has characters alone: a column that is none is printed
+with its card and its pattern, and OUT is not written.
+";
+
+/// The text that `cut --help` prints.
+pub const CUT_HELP: &str = "\
+workbench cut IN OUT FIRST LAST [--numbers]: makes a deck of some cards of
+another, from one card to another, in the same form.
+
+IN         a deck text or a punch file, of any number of cards
+OUT        the deck of the part
+FIRST      the place of its first card in IN, the first card of IN being 1
+LAST       the place of its last card in IN
+--numbers  FIRST and LAST are what stands in columns 73 to 80 of the first and
+           of the last card, all eight columns, as sequence writes them; each
+           must stand on one card and no other
+
+examples:
+  workbench cut drawer.deck first.deck 1 2000
+  workbench cut numbered.source part.source PAY00010 PAY00030 --numbers
 ";
 
 /// The text that `source --help` prints.
@@ -203,10 +232,11 @@ examples:
 A line is the SHA-256 of the deck's text in hexadecimal and the name of the
 file; the lines are sorted by the bytes of the names. The digest does not depend
 on the form of the file. Of a deck text it is the file's own, and sha256sum
-checks it; a file of another form wants a sha256sum of its own. A name that
-begins with a number and two blanks, or ends with a carriage return, would be
-read as another one and is told. A file that is no deck is told with its fault,
-the status is 1 then, and the others go on.
+checks it; a file of another form wants a sha256sum of its own. Of a deck with a
+column that is no character it is the digest of its punch file in capitals. A
+name that begins with a number and two blanks, or ends with a carriage return,
+would be read as another one and is told. A file that is no deck is told with
+its fault, the status is 1 then, and the others go on.
 ";
 
 /// The text that `intake --help` prints.
@@ -360,8 +390,8 @@ example:
   workbench card examples/two_lines.deck 5 hello.svg
   workbench card ACME-9.cards 1 first.svg
 
-The picture has the holes of the card, and its glyphs at the upper edge. It
-needs no other file.
+The picture has the holes of the card, and its glyphs at the upper edge; there a
+column whose holes are no character's is blank. It needs no other file.
 ";
 
 /// The text that `deck --help` prints.
@@ -425,6 +455,7 @@ pub(crate) fn page(subcommand: Option<Subcommand>) -> &'static str
         Some(Subcommand::Compare) => COMPARE_HELP,
         Some(Subcommand::Sequence) => SEQUENCE_HELP,
         Some(Subcommand::Convert) => CONVERT_HELP,
+        Some(Subcommand::Cut) => CUT_HELP,
         Some(Subcommand::Source) => SOURCE_HELP,
         Some(Subcommand::Manifest) => MANIFEST_HELP,
         Some(Subcommand::Intake) => INTAKE_HELP,

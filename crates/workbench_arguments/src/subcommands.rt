@@ -15,6 +15,8 @@ pub enum Subcommand {
     Sequence,
     /// `convert`.
     Convert,
+    /// `cut`.
+    Cut,
     /// `source`.
     Source,
     /// `manifest`.
@@ -40,7 +42,7 @@ pub enum Subcommand {
 }
 
 /// The subcommands.
-const SUBCOMMANDS: [Syntax<Subcommand>; 16] = [
+const SUBCOMMANDS: [Syntax<Subcommand>; 17] = [
     Syntax {
         subcommand: Subcommand::Punch,
         name: "punch",
@@ -95,6 +97,18 @@ const SUBCOMMANDS: [Syntax<Subcommand>; 16] = [
             ("TO", Kind::Value),
         ],
         usage: "convert IN OUT FROM TO",
+    },
+    Syntax {
+        subcommand: Subcommand::Cut,
+        name: "cut",
+        arguments: &[
+            ("IN", Kind::Value),
+            ("OUT", Kind::Value),
+            ("FIRST", Kind::Value),
+            ("LAST", Kind::Value),
+            ("numbers", Kind::Flag),
+        ],
+        usage: "cut IN OUT FIRST LAST [--numbers]",
     },
     Syntax {
         subcommand: Subcommand::Source,

@@ -9,14 +9,14 @@ ghost use Rattle.command_line.specs.{
 ghost use Rattle.workbench_arguments.specs.Subcommands.{workbench};
 ghost use Rattle.card_forms.specs.Forms.{word_of};
 ghost use Rattle.workbench_arguments.specs.{
-  Tasks.{AreRulesOf, HasEmpty, HasForm, HasKept, HasSigns, HasTabs, IsNarrow, NamesSigns, Wants, WantsCompare, WantsConvert, WantsIntake, WantsList, WantsManifest, WantsPunch, WantsSequence, WantsSource, WantsTask},
+  Tasks.{AreRulesOf, HasEmpty, HasForm, HasKept, HasSigns, HasTabs, IsNarrow, NamesSigns, Wants, WantsCompare, WantsConvert, WantsCut, WantsIntake, WantsList, WantsManifest, WantsPunch, WantsSequence, WantsSource, WantsTask},
   Values.{IsNumeral},
 };
 
 use crate::bench_tasks::{console_task, dump_task, profile_task, trace_task};
 use crate::complaints::{
-    NO_COLUMN, NO_EMPTY_LINE, NO_FIRST_NUMBER, NO_FORM, NO_FORM_READ, NO_FORM_WRITTEN, NO_SIGNS,
-    NO_STEP, NO_TABS, NO_WIDTH,
+    NO_COLUMN, NO_EMPTY_LINE, NO_FIRST_NUMBER, NO_FORM, NO_FORM_READ, NO_FORM_WRITTEN,
+    NO_LAST_NUMBER, NO_SIGNS, NO_STEP, NO_TABS, NO_WIDTH,
 };
 use crate::help::{VERSION, page};
 use crate::picture_tasks::{card_task, deck_task, page_task, pages_task};
@@ -154,6 +154,28 @@ pub enum Task<'a> {
         reads: Form,
         /// The form that is written.
         writes: Form,
+    },
+    /// Make a deck of some cards of another, by their places.
+    Cut {
+        /// The path of the deck.
+        deck: &'a str,
+        /// The path of the part.
+        out: &'a str,
+        /// The place of the first card of the part, from 1.
+        first: u32,
+        /// The place of its last card.
+        last: u32,
+    },
+    /// The same, by what stands in columns 73 to 80.
+    CutNumbers {
+        /// The path of the deck.
+        deck: &'a str,
+        /// The path of the part.
+        out: &'a str,
+        /// What stands on the first card of the part.
+        first: &'a str,
+        /// What stands on its last card.
+        last: &'a str,
     },
     /// Print a source with its code, or its faults.
     Source {
@@ -391,6 +413,30 @@ fn convert_task<'a>(found: &Found<'a>) -> Result<Task<'a>, Mistake<'static>>
     })
 }
 
+/// The task of a subcommand `cut`.
+fn cut_task<'a>(found: &Found<'a>) -> Result<Task<'a>, Mistake<'static>>
+    ensures { IfOk result (WantsCut (given found.now)) }
+{
+    let deck = found.needed("IN")?;
+    let out = found.needed("OUT")?;
+    let first = found.needed("FIRST")?;
+    let last = found.needed("LAST")?;
+    if found.has_flag("numbers") {
+        return Ok(Task::CutNumbers {
+            deck,
+            out,
+            first,
+            last,
+        });
+    }
+    Ok(Task::Cut {
+        deck,
+        out,
+        first: number(first, NO_FIRST_NUMBER)?,
+        last: number(last, NO_LAST_NUMBER)?,
+    })
+}
+
 /// Whether `--width` asks for 80 columns; not where it is not given.
 fn narrow_in(found: &Found<'_>) -> Result<bool, Mistake<'static>>
     ensures { IfOk result (λ narrow. IsNarrow (given found.now) narrow) }
@@ -455,6 +501,7 @@ fn subcommand_task<'a>(
         Subcommand::Source => source_task(found),
         Subcommand::Manifest => manifest_task(alloc, found),
         Subcommand::Convert => convert_task(found),
+        Subcommand::Cut => cut_task(found),
         Subcommand::Intake => intake_task(alloc, found),
         Subcommand::Trace => trace_task(found),
         Subcommand::Dump => dump_task(found),
