@@ -1,5 +1,5 @@
 //! What is printed of cards and done to them: a deck listed, two decks compared, the numbers in the
-//! columns 73 to 80 of a deck's cards, and a deck's line in a manifest.
+//! columns 73 to 80 of a deck's cards, a deck's line in a manifest, and a part of a deck.
 //!
 //! The crate uses `cards`, and of `card_forms` the images of cards: what is listed, compared,
 //! digested and cut may have columns that are no characters, and any number of cards. Its contract
