@@ -41,9 +41,9 @@ pub fn images_of(alloc: Global, cards: &[Card]) -> Result<Vec<CardImage>, AllocE
     Ok(images)
 }
 
-/// The character of a column, if its pattern is one's.
+/// Returns the character of a column, if its pattern is one's.
 #[tactic(auto, using(crate::proofs::ImageCharacters::character_is, crate::proofs::ImageCharacters::character_none))]
-fn character_of(pattern: u16) -> Option<Code>
+pub fn character_of(pattern: u16) -> Option<Code>
     ensures found { IfSome result (λ code. character_of pattern ≡ code) }
     ensures below { IfSome result (λ code. code < 64) }
     ensures none { IsNone result → character_of pattern ≡ 64 }

@@ -33,7 +33,9 @@ pub use forms::Form;
 pub use image_faults::{ImageFault, NO_MEMORY, first_odd};
 pub use image_reading::read_images;
 pub use image_writing::write_images;
-pub use images::{CardImage, are_characters, filled_columns, glyph_shown, image_of, images_of};
+pub use images::{
+    CardImage, are_characters, character_of, filled_columns, glyph_shown, image_of, images_of,
+};
 pub use laws::{forms_agree, images_agree};
 pub use punch_files::is_punch_line;
 pub use reading::{form_told, read, read_either};

@@ -1,6 +1,7 @@
 -- the page of a job
 use Rattle.std.specs.Prelude.{ℕ, ◌==◌, if◌then◌else◌, List, ◌++◌, length, codes}
 use Rattle.cards.specs.declared.Card.{Card}
+use Rattle.card_forms.specs.Images.{images_of}
 use Rattle.core_store.specs.declared.sizes.Size.{Size}
 use Rattle.units.specs.declared.switches.Switches.{Switches}
 use Rattle.units.specs.Listing.{rendered}
@@ -37,7 +38,7 @@ listing_shown listing = codes "<h2>Listing</h2>\n"
 
 -- the stock of cards, and the figure of each
 abbrev pub figures : List Card → List ℕ
-figures cards = stock_definition ++ figures_from 1 cards
+figures cards = stock_definition ++ figures_from 1 (images_of cards)
 
 -- the punched cards
 abbrev pub cards_shown : List Card → List ℕ

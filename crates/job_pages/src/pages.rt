@@ -105,7 +105,7 @@ fn push_page(
     push_facts(alloc, out, subject, job, cards)?;
     push_code(out, job)?;
     parts::push_listing(out, listing)?;
-    parts::push_cards(out, cards)?;
+    parts::push_cards(alloc, out, cards)?;
     Ok(())
 }
 

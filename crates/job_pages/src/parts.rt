@@ -4,12 +4,13 @@ ghost use Rattle.std.specs.Prelude.{◌≡◌, ◌++◌, OnOk};
 ghost use Rattle.job_pages.specs.Pages.{cards_shown, code_shown, job_head, listing_shown, style};
 
 use crate::styles::JOB_STYLE;
+use card_forms::images_of;
 use cards::Card;
 use pictures::{
     CARD_STYLE, FIGURE_STYLE, FORM_STYLE, push_card_figures, push_escaped, push_listing_forms,
     push_stock_definition,
 };
-use std::alloc::AllocError;
+use std::alloc::{AllocError, Global};
 
 /// Adds the style of the page.
 fn push_style(out: &mut Vec<u8>) -> Result<(), AllocError>
@@ -57,13 +58,18 @@ pub(crate) fn push_listing(out: &mut Vec<u8>, listing: &[u8]) -> Result<(), Allo
 }
 
 /// Adds the punched cards.
-pub(crate) fn push_cards(out: &mut Vec<u8>, cards: &[Card]) -> Result<(), AllocError>
+pub(crate) fn push_cards(
+    alloc: Global,
+    out: &mut Vec<u8>,
+    cards: &[Card],
+) -> Result<(), AllocError>
     ensures { OnOk result (out.new.items ≡ out.old.items ++ cards_shown cards.now) }
 {
     out.extend_from_slice(b"<h2>Punched cards</h2>\n")?;
     if cards.is_empty() {
         return out.extend_from_slice(b"<p>No card was punched.</p>\n");
     }
+    let images = images_of(alloc, cards)?;
     push_stock_definition(out)?;
-    push_card_figures(out, cards)
+    push_card_figures(out, &images)
 }

@@ -3,7 +3,7 @@ use Rattle.std.proofs.Common.{◌≡◌, ℕ, zero, suc, ◌+◌, ◌-◌, ◌<�
 use Rattle.std.specs.List.{flat_map, range_with_len}
 use Rattle.std.proofs.lemmas.List.{drop_more, drop_all}
 use Rattle.std.proofs.lemmas.List.Concat.{flat_map-append}
-use Rattle.cards.specs.declared.Card.{Card}
+use Rattle.card_forms.specs.declared.images.CardImage.{CardImage}
 use Rattle.pictures.specs.Decks.{figure, figures_from}
 
 -- one piece more of a text that was added to another
@@ -67,7 +67,7 @@ all_done rest_of xs i done whole end none same =
     sym (append-nil done) ∙ ap (λ rest. done ++ rest) (sym none) ∙ ap (λ rest. done ++ rest_of rest) (sym (drop_all i xs end)) ∙ same
 
 -- one figure more
-pub figure_on : (number : ℕ) (card : Card) (rest all : List Card) (done : List ℕ) → all ≡ card ∷ rest
+pub figure_on : (number : ℕ) (card : CardImage) (rest all : List CardImage) (done : List ℕ) → all ≡ card ∷ rest
     → (done ++ figure number card) ++ figures_from (number + 1) rest ≡ done ++ figures_from number all
 unfolding figures_from
 figure_on number card rest all done first =

@@ -2,20 +2,20 @@
 use Rattle.std.proofs.Common.{◌≡◌, ℕ, ◌+◌, ◌<◌, ◌==◌, ◌^◌, Bool, true, false, not, nat_eq, List, [], ◌∷◌, ◌++◌, length, map, filter, decimal, codes, refl, ap, sym, ◌∙◌, subst, arith, append_assoc}
 use Rattle.std.specs.Fmt.{digits}
 use Rattle.std.specs.List.{All, AllZip, starts_with}
+use Rattle.std.proofs.lemmas.Bool.{ltb-true}
 use Rattle.std.proofs.lemmas.List.Elements.{All-head, All-tail}
 use Rattle.bcd.specs.Table.{glyph_of}
 use Rattle.bcd.proofs.Tables.{at_each}
-use Rattle.cards.specs.Decks.{AreCharacters, IsCard, IsDeck}
-use Rattle.cards.specs.declared.Card.{Card}
+use Rattle.card_forms.specs.declared.images.CardImage.{CardImage}
 use Rattle.card_forms.specs.Signs.{filled}
-use Rattle.card_forms.proofs.FilledColumns.{filled_characters}
+use Rattle.card_forms.specs.Images.{IsImage, character_of, is_character}
 use Rattle.pictures.specs.Cards.{holes_drawn, holes_from, holes_path, marks, places, print, stock}
 use Rattle.pictures.specs.Decks.{captioned, deck_head, deck_page_of, figure, figures_from, stock_definition, titled_by_number}
-use Rattle.pictures.specs.Escapes.{card_glyphs, escape_of, escaped}
+use Rattle.pictures.specs.Escapes.{card_glyphs, escape_of, escaped, glyph_printed}
 use Rattle.pictures.specs.Reading.{Shows, behind_tags, figures_read, pieces, print_tag}
 use Rattle.pictures.specs.declared.styles.TheConstants.{CARD_STYLE, DECK_STYLE, FIGURE_STYLE}
 use Rattle.pictures.proofs.HolesRead.{by_corners, no_feed_in_outlines}
-use Rattle.pictures.proofs.MarksRead.{IsNumber, corners_of, near, print_back, punches_shown}
+use Rattle.pictures.proofs.MarksRead.{corners_of, near, print_back, punches_shown}
 use Rattle.pictures.proofs.PictureTexts.{hole_rest, print_rest, tagged_marks}
 use Rattle.pictures.proofs.PiecesRead.{between, has_none, in_neither, none_in_both, none_in_decimal, one_piece, pieces_both}
 use Rattle.pictures.proofs.TextsRead.{none_in_escaped}
@@ -24,19 +24,19 @@ use Rattle.pictures.proofs.TextsRead.{none_in_escaped}
 abbrev opening : List ℕ
 opening = codes "<figure><svg xmlns=\"http://www.w3.org/2000/svg\" viewBox=\"0 0 7375 3250\">"
 
-abbrev front : ℕ → Card → List ℕ
+abbrev front : ℕ → CardImage → List ℕ
 front number card = (opening ++ titled_by_number number card) ++ codes "<use href=\"#stock\"/>"
 
 abbrev back : ℕ → List ℕ
 back number = (codes "</svg>" ++ captioned number) ++ codes "</figure>"
 
-abbrev line_of : ℕ → Card → List ℕ
+abbrev line_of : ℕ → CardImage → List ℕ
 line_of number card = (front number card ++ marks card) ++ back number
 
 grouped : (m v c e last : List ℕ) → ((m ++ v) ++ c) ++ (e ++ last) ≡ (m ++ ((v ++ c) ++ e)) ++ last
 grouped m v c e last = simp append_assoc
 
-figure_is : (number : ℕ) (card : Card) → figure number card ≡ line_of number card ++ 10 ∷ []
+figure_is : (number : ℕ) (card : CardImage) → figure number card ≡ line_of number card ++ 10 ∷ []
 unfolding figure
 figure_is number card = grouped (front number card ++ marks card) (codes "</svg>") (captioned number) (codes "</figure>") (10 ∷ [])
 
@@ -59,10 +59,10 @@ record IsOther (byte : ℕ) (tag : List ℕ) : Type 0 where
   in_caption : (text : List ℕ) → has_none 60 text ≡ true → behind_tags (byte ∷ tag) (codes "<figcaption>" ++ text) ≡ []
   in_last : behind_tags (byte ∷ tag) (codes "</figcaption></figure>") ≡ []
 
-title_shown : (byte : ℕ) (tag : List ℕ) (number : ℕ) (card : Card) → IsOther byte tag → number < 2 ^ 64 → behind_tags (byte ∷ tag) (titled_by_number number card) ≡ []
+title_shown : (byte : ℕ) (tag : List ℕ) (number : ℕ) (card : CardImage) → IsOther byte tag → number < 2 ^ 64 → behind_tags (byte ∷ tag) (titled_by_number number card) ≡ []
 title_shown byte tag number card other small =
     let text = decimal number ++ (codes ": " ++ card_glyphs card) in
-    let none = none_in_both 60 (decimal number) (codes ": " ++ card_glyphs card) (none_in_decimal 60 no_tag number small) (none_in_escaped (map glyph_of (filled card.0))) in
+    let none = none_in_both 60 (decimal number) (codes ": " ++ card_glyphs card) (none_in_decimal 60 no_tag number small) (none_in_escaped (map glyph_printed (filled card.0))) in
     let parted : titled_by_number number card ≡ (codes "<title>card " ++ text) ++ codes "</title>" = simp append_assoc in
     ap (behind_tags (byte ∷ tag)) parted
     ∙ in_neither byte tag (codes "<title>card " ++ text) (codes "</title>") refl (other.in_title text none) other.in_title_end
@@ -75,7 +75,7 @@ back_shown byte tag number other small =
     ∙ in_neither byte tag (codes "</svg>") (caption ++ codes "</figcaption></figure>") refl other.in_end
     (in_neither byte tag caption (codes "</figcaption></figure>") refl (other.in_caption (decimal number) (none_in_decimal 60 no_tag number small)) other.in_last)
 
-line_shown : (byte : ℕ) (tag : List ℕ) (number : ℕ) (card : Card) → IsOther byte tag → number < 2 ^ 64
+line_shown : (byte : ℕ) (tag : List ℕ) (number : ℕ) (card : CardImage) → IsOther byte tag → number < 2 ^ 64
     → behind_tags (byte ∷ tag) (line_of number card) ≡ behind_tags (byte ∷ tag) (marks card)
 line_shown byte tag number card other small =
     between byte tag (front number card) (marks card) (back number) (tagged_marks card) refl
@@ -105,7 +105,7 @@ hole_other = record {
   in_last = refl;
 }
 
-line_shows : (number : ℕ) (card : Card) → IsCard card → number < 2 ^ 64 → Shows (line_of number card) card
+line_shows : (number : ℕ) (card : CardImage) → IsImage card → number < 2 ^ 64 → Shows (line_of number card) card
 line_shows number card is_card small = (
   punches_shown (line_of number card) card is_card (line_shown 112 hole_rest number card hole_other small),
   print_back (line_of number card) card is_card (line_shown 116 print_rest number card print_other small),
@@ -117,13 +117,32 @@ plain_glyph : (code : ℕ) → code < 64 → has_none 10 (escape_of (glyph_of co
 unfolding escape_of glyph_of
 plain_glyph code below = at_each (λ k. has_none 10 (escape_of (glyph_of k))) 64 refl code below
 
-plain_glyphs : (codes : List ℕ) → AreCharacters codes → has_none 10 (escaped (map glyph_of codes)) ≡ true
-plain_glyphs [] each = refl
-plain_glyphs (code ∷ codes) each =
-    none_in_both 10 (escape_of (glyph_of code)) (escaped (map glyph_of codes)) (plain_glyph code (All-head IsNumber code codes each)) (plain_glyphs codes (All-tail IsNumber code codes each))
+pub printed_is : (pattern : ℕ) → is_character pattern ≡ true → glyph_printed pattern ≡ glyph_of (character_of pattern)
+unfolding glyph_printed
+printed_is pattern is = rw is refl
 
-plain_card : (card : Card) → IsCard card → has_none 10 (card_glyphs card) ≡ true
-plain_card card is_card = plain_glyphs (filled card.0) (filled_characters IsNumber card.0 is_card.1)
+printed_none : (pattern : ℕ) → is_character pattern ≡ false → glyph_printed pattern ≡ 32
+unfolding glyph_printed
+printed_none pattern none = rw none refl
+
+plain_blank : has_none 10 (escape_of 32) ≡ true
+unfolding escape_of
+plain_blank = refl
+
+plain_printed : (pattern : ℕ) → has_none 10 (escape_of (glyph_printed pattern)) ≡ true
+plain_printed pattern =
+    (elim (is_character pattern) as (λ b. is_character pattern ≡ b → has_none 10 (escape_of (glyph_printed pattern)) ≡ true) [
+      | true ↦ λ is. ap (λ glyph. has_none 10 (escape_of glyph)) (printed_is pattern is) ∙ plain_glyph (character_of pattern) (ltb-true (character_of pattern) 64 is)
+      | false ↦ λ none. ap (λ glyph. has_none 10 (escape_of glyph)) (printed_none pattern none) ∙ plain_blank
+    ]) refl
+
+plain_glyphs : (patterns : List ℕ) → has_none 10 (escaped (map glyph_printed patterns)) ≡ true
+plain_glyphs [] = refl
+plain_glyphs (pattern ∷ patterns) =
+    none_in_both 10 (escape_of (glyph_printed pattern)) (escaped (map glyph_printed patterns)) (plain_printed pattern) (plain_glyphs patterns)
+
+plain_card : (card : CardImage) → has_none 10 (card_glyphs card) ≡ true
+plain_card card = plain_glyphs (filled card.0)
 
 plain_print_tag : has_none 10 print_tag ≡ true
 unfolding digits places
@@ -133,27 +152,27 @@ plain_stock : has_none 10 stock ≡ true
 unfolding digits stock places
 plain_stock = refl
 
-plain_holes : (card : Card) → IsCard card → has_none 10 (holes_drawn card) ≡ true
+plain_holes : (card : CardImage) → IsImage card → has_none 10 (holes_drawn card) ≡ true
 plain_holes card is_card =
     none_in_both 10 (codes "<path class=\"hole\" d=\"" ++ holes_path card) (codes "\"/>") (ap (has_none 10) (by_corners (holes_from 1 card.0)) ∙ no_feed_in_outlines (corners_of card) (near card is_card)) refl
 
-plain_print : (card : Card) → IsCard card → has_none 10 (print card) ≡ true
-plain_print card is_card =
-    none_in_both 10 (print_tag ++ card_glyphs card) (codes "</text>") (none_in_both 10 print_tag (card_glyphs card) plain_print_tag (plain_card card is_card)) refl
+plain_print : (card : CardImage) → has_none 10 (print card) ≡ true
+plain_print card =
+    none_in_both 10 (print_tag ++ card_glyphs card) (codes "</text>") (none_in_both 10 print_tag (card_glyphs card) plain_print_tag (plain_card card)) refl
 
-plain_marks : (card : Card) → IsCard card → has_none 10 (marks card) ≡ true
+plain_marks : (card : CardImage) → IsImage card → has_none 10 (marks card) ≡ true
 unfolding marks
 plain_marks card is_card =
     (elim (length (filled card.0) == 0) as (λ t. (length (filled card.0) == 0) ≡ t → has_none 10 (marks card) ≡ true) [
       | true ↦ λ blank. rw blank refl
-      | false ↦ λ other. rw other (none_in_both 10 (holes_drawn card) (print card) (plain_holes card is_card) (plain_print card is_card))
+      | false ↦ λ other. rw other (none_in_both 10 (holes_drawn card) (print card) (plain_holes card is_card) (plain_print card))
     ]) refl
 
-plain_line : (number : ℕ) (card : Card) → IsCard card → number < 2 ^ 64 → has_none 10 (line_of number card) ≡ true
+plain_line : (number : ℕ) (card : CardImage) → IsImage card → number < 2 ^ 64 → has_none 10 (line_of number card) ≡ true
 plain_line number card is_card small =
     let plain = none_in_decimal 10 no_feed number small in
     let title = none_in_both 10 ((codes "<title>card " ++ decimal number) ++ codes ": " ++ card_glyphs card) (codes "</title>")
-    (none_in_both 10 ((codes "<title>card " ++ decimal number) ++ codes ": ") (card_glyphs card) (none_in_both 10 (codes "<title>card " ++ decimal number) (codes ": ") plain refl) (plain_card card is_card)) refl in
+    (none_in_both 10 ((codes "<title>card " ++ decimal number) ++ codes ": ") (card_glyphs card) (none_in_both 10 (codes "<title>card " ++ decimal number) (codes ": ") plain refl) (plain_card card)) refl in
     let caption = none_in_both 10 (codes "</svg>" ++ captioned number) (codes "</figure>") (none_in_both 10 (codes "<figcaption>" ++ decimal number) (codes "</figcaption>") plain refl) refl in
     none_in_both 10 (front number card ++ marks card) (back number)
     (none_in_both 10 (front number card) (marks card) (none_in_both 10 (opening ++ titled_by_number number card) (codes "<use href=\"#stock\"/>") (none_in_both 10 opening (titled_by_number number card) refl title) refl) (plain_marks card is_card))
@@ -169,16 +188,16 @@ is_figure line = starts_with nat_eq line (codes "<figure>")
 next_line : (line rest : List ℕ) → has_none 10 line ≡ true → pieces 10 (line ++ 10 ∷ rest) ≡ line ∷ pieces 10 rest
 next_line line rest none = pieces_both 10 line rest ∙ ap (λ parts. parts ++ pieces 10 rest) (one_piece 10 line none)
 
-figures_shown : (number : ℕ) (deck : List Card) → All IsCard deck → number + length deck < 2 ^ 64 → AllZip Shows (filter is_figure (pieces 10 (figures_from number deck))) deck
+figures_shown : (number : ℕ) (deck : List CardImage) → All IsImage deck → number + length deck < 2 ^ 64 → AllZip Shows (filter is_figure (pieces 10 (figures_from number deck))) deck
 unfolding figures_from
 figures_shown number [] each few = tt
 figures_shown number (card ∷ deck) each few =
-    let is_card = All-head IsCard card deck each in
+    let is_card = All-head IsImage card deck each in
     let line = line_of number card in
     let rest = figures_from (number + 1) deck in
     let parted : figure number card ++ rest ≡ line ++ 10 ∷ rest = ap (λ text. text ++ rest) (figure_is number card) ∙ append_assoc line (10 ∷ []) rest in
     let lines : pieces 10 (figure number card ++ rest) ≡ line ∷ pieces 10 rest = ap (pieces 10) parted ∙ next_line line rest (plain_line number card is_card (omega arith)) in
-    rw lines (line_shows number card is_card (omega arith), figures_shown (number + 1) deck (All-tail IsCard card deck each) (omega arith))
+    rw lines (line_shows number card is_card (omega arith), figures_shown (number + 1) deck (All-tail IsImage card deck each) (omega arith))
 
 -- the first two lines of the page
 abbrev head_line : List ℕ
@@ -193,7 +212,7 @@ head_is = refl
 regroup : (h s f : List ℕ) → ((h ++ 10 ∷ []) ++ (s ++ 10 ∷ [])) ++ f ≡ h ++ 10 ∷ (s ++ 10 ∷ f)
 regroup h s f = simp append_assoc
 
-page_is : (deck : List Card) → deck_page_of deck ≡ head_line ++ 10 ∷ (stock_line ++ 10 ∷ figures_from 1 deck)
+page_is : (deck : List CardImage) → deck_page_of deck ≡ head_line ++ 10 ∷ (stock_line ++ 10 ∷ figures_from 1 deck)
 page_is deck =
     let stock_is : stock_definition ≡ stock_line ++ 10 ∷ [] =
     sym (append_assoc (codes "<svg width=\"0\" height=\"0\" style=\"position:absolute\"><defs><g id=\"stock\">" ++ stock) (codes "</g></defs></svg>") (10 ∷ [])) in
@@ -201,11 +220,11 @@ page_is deck =
     ∙ ap (λ text. ((head_line ++ 10 ∷ []) ++ text) ++ figures_from 1 deck) stock_is
     ∙ regroup head_line stock_line (figures_from 1 deck)
 
-pub figures_show : (deck : List Card) → IsDeck deck → AllZip Shows (figures_read (deck_page_of deck)) deck
+pub figures_show : (deck : List CardImage) → All IsImage deck → length deck < 2 ^ 63 → AllZip Shows (figures_read (deck_page_of deck)) deck
 unfolding figures_read
-figures_show deck is_deck =
+figures_show deck each few =
     let rest = figures_from 1 deck in
     let plain : has_none 10 stock_line ≡ true = none_in_both 10 (codes "<svg width=\"0\" height=\"0\" style=\"position:absolute\"><defs><g id=\"stock\">" ++ stock) (codes "</g></defs></svg>") plain_stock refl in
     let lines : pieces 10 (deck_page_of deck) ≡ head_line ∷ (stock_line ∷ pieces 10 rest) =
     ap (pieces 10) (page_is deck) ∙ next_line head_line (stock_line ++ 10 ∷ rest) refl ∙ ap (λ lines. head_line ∷ lines) (next_line stock_line rest plain) in
-    subst (λ (parts : List (List ℕ)). AllZip Shows (filter is_figure parts) deck) (sym lines) (figures_shown 1 deck is_deck.1 (omega (arith, is_deck.0)))
+    subst (λ (parts : List (List ℕ)). AllZip Shows (filter is_figure parts) deck) (sym lines) (figures_shown 1 deck each (omega (arith, few)))

@@ -3,9 +3,9 @@ use Rattle.std.proofs.Common.{◌≡◌, ◌≢◌, ◌⊎◌, ℕ, zero, suc, �
 use Rattle.std.specs.List.{Contains}
 use Rattle.std.proofs.lemmas.Bool.{cases_eq}
 use Rattle.std.proofs.lemmas.List.Elements.{All-contains, All-contains_itself, All-filter, Contains-append_left, Contains-append_right, Contains-append_cases, filter_passes}
-use Rattle.bcd.specs.Table.{punches_of, row}
-use Rattle.cards.specs.Decks.{IsCard}
-use Rattle.cards.specs.declared.Card.{Card}
+use Rattle.bcd.specs.Table.{row}
+use Rattle.card_forms.specs.Images.{IsImage}
+use Rattle.card_forms.specs.declared.images.CardImage.{CardImage}
 use Rattle.pictures.specs.Cards.{holes_from, holes_in, is_punched}
 use Rattle.pictures.specs.Places.{rows}
 use Rattle.pictures.specs.Reading.{IsPunched}
@@ -63,7 +63,7 @@ differs n other same = grind (arith, other, same)
 differs_so : (n : ℕ) → n ≢ 0 → not (n == 0) ≡ true
 differs_so n other = grind (arith, other)
 
--- the characters of columns from one on are punched in a column and a row
+-- the patterns of columns from one on have a hole in a column and a row
 pub record IsPunchedFrom (first : ℕ) (codes : List ℕ) (column number : ℕ) : Type 0 where
   pub from : first ≤ column
   pub within : column < first + length codes
@@ -128,18 +128,18 @@ are_holes first (code ∷ codes) column number punched =
     ]
 
 -- by the punches of the card
-pub of_card : (card : Card) (column number : ℕ) → IsCard card → IsPunchedFrom 1 card.0 column number → IsPunched card column number
+pub of_card : (card : CardImage) (column number : ℕ) → IsImage card → IsPunchedFrom 1 card.0 column number → IsPunched card column number
 of_card card column number is_card punched = record {
   first = punched.from;
   last = omega (arith, punched.within, is_card.0);
   is_row = punched.is_row;
-  punched = differs (bit_and (punches_of (get_or card.0 (column - 1) 0)) (row number)) punched.punched;
+  punched = differs (bit_and (get_or card.0 (column - 1) 0) (row number)) punched.punched;
 }
 
-pub by_card : (card : Card) (column number : ℕ) → IsCard card → IsPunched card column number → IsPunchedFrom 1 card.0 column number
+pub by_card : (card : CardImage) (column number : ℕ) → IsImage card → IsPunched card column number → IsPunchedFrom 1 card.0 column number
 by_card card column number is_card punched = record {
   from = punched.first;
   within = omega (arith, punched.last, is_card.0);
   is_row = punched.is_row;
-  punched = differs_so (bit_and (punches_of (get_or card.0 (column - 1) 0)) (row number)) punched.punched;
+  punched = differs_so (bit_and (get_or card.0 (column - 1) 0) (row number)) punched.punched;
 }

@@ -6,7 +6,6 @@ use Rattle.std.proofs.lemmas.List.{map-append}
 use Rattle.std.proofs.lemmas.List.Elements.{All-head, All-tail, All-nil, All-append, All-map, All-filter, All-weaker}
 use Rattle.std.proofs.lemmas.Bool.{ltb-true}
 use Rattle.std.proofs.lemmas.List.Sums.{AllPass-from_list_all}
-use Rattle.bcd.specs.Table.{punches_of, zone_of}
 use Rattle.pictures.specs.Cards.{holes_from, holes_in, is_punched, outline, outlines}
 use Rattle.pictures.specs.Places.{corner, row_middle, rows}
 use Rattle.pictures.specs.Reading.{corner_read, corners_in, pieces}
@@ -136,7 +135,6 @@ small_from column (code ∷ codes) near =
 
 -- blank columns have no holes
 blank_column : (column : ℕ) → holes_in column 0 ≡ []
-unfolding punches_of zone_of
 blank_column column = refl
 
 pub none_in_blanks : (column count : ℕ) → holes_from column (replicate count 0) ≡ []

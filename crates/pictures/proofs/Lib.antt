@@ -1,4 +1,3 @@
-pub mod CardLaw
 pub mod CountedPieces
 pub mod FormParts
 pub mod HoleOutlines
@@ -11,3 +10,4 @@ pub mod PiecesRead
 pub mod TextsRead
 pub mod MarksRead
 pub mod DeckLaw
+pub mod CardLaw

@@ -2,13 +2,12 @@
 use Rattle.std.proofs.Common.{◌≡◌, ℕ, ◌-◌, ◌==◌, ◌<◌, true, false, List, [], ◌∷◌, ◌++◌, length, map, replicate, codes, refl, ap, sym, ◌∙◌, subst, arith, append-nil}
 use Rattle.std.specs.List.{All, Contains, flat_map}
 use Rattle.std.proofs.lemmas.List.{nil_from_length}
-use Rattle.bcd.specs.Table.{glyph_of}
-use Rattle.cards.specs.Decks.{IsCard}
-use Rattle.cards.specs.declared.Card.{Card}
+use Rattle.card_forms.specs.Images.{IsImage}
+use Rattle.card_forms.specs.declared.images.CardImage.{CardImage}
 use Rattle.card_forms.specs.Signs.{filled}
 use Rattle.card_forms.proofs.FilledColumns.{filled_back}
 use Rattle.pictures.specs.Cards.{holes_drawn, holes_from, holes_path, marks, print}
-use Rattle.pictures.specs.Escapes.{card_glyphs}
+use Rattle.pictures.specs.Escapes.{card_glyphs, glyph_printed}
 use Rattle.pictures.specs.Places.{corner}
 use Rattle.pictures.specs.Reading.{HasThePrint, HasThePunches, behind_tags, corners_in, corners_read, hole_tag, print_read, print_tag, unescaped}
 use Rattle.pictures.proofs.HolesLaw.{are_holes, by_card, given, given_only, holes_are, of_card}
@@ -17,41 +16,37 @@ use Rattle.pictures.proofs.PictureTexts.{hole_rest, no_hole_in_print, print_rest
 use Rattle.pictures.proofs.PiecesRead.{behind_both, has_none, none_in_both, one_piece, tag_shown}
 use Rattle.pictures.proofs.TextsRead.{text_read}
 
--- the number is a character's
-abbrev pub IsNumber : ℕ → Type 0
-IsNumber code = code < 64
-
 -- a card that is blank, and one that is not
-blank_marks : (card : Card) → (length (filled card.0) == 0) ≡ true → marks card ≡ []
+blank_marks : (card : CardImage) → (length (filled card.0) == 0) ≡ true → marks card ≡ []
 unfolding marks
 blank_marks card blank = rw blank refl
 
-other_marks : (card : Card) → (length (filled card.0) == 0) ≡ false → marks card ≡ holes_drawn card ++ print card
+other_marks : (card : CardImage) → (length (filled card.0) == 0) ≡ false → marks card ≡ holes_drawn card ++ print card
 unfolding marks
 other_marks card other = rw other refl
 
 -- the corners of the holes of a card
-abbrev pub corners_of : Card → List (ℕ × ℕ)
+abbrev pub corners_of : CardImage → List (ℕ × ℕ)
 corners_of card = map corner (holes_from 1 card.0)
 
-pub near : (card : Card) → IsCard card → All IsSmall (corners_of card)
+pub near : (card : CardImage) → IsImage card → All IsSmall (corners_of card)
 near card is_card = small_from 1 card.0 (omega (arith, is_card.0))
 
 -- what stands in the path of the holes
-none_in_path : (card : Card) → IsCard card → has_none 60 (holes_path card ++ codes "\"/>") ≡ true
+none_in_path : (card : CardImage) → IsImage card → has_none 60 (holes_path card ++ codes "\"/>") ≡ true
 none_in_path card is_card =
     none_in_both 60 (holes_path card) (codes "\"/>") (ap (has_none 60) (by_corners (holes_from 1 card.0)) ∙ no_tag_in_outlines (corners_of card) (near card is_card)) refl
 
-holes_shown : (card : Card) → IsCard card → behind_tags hole_tag (holes_drawn card) ≡ (holes_path card ++ codes "\"/>") ∷ []
+holes_shown : (card : CardImage) → IsImage card → behind_tags hole_tag (holes_drawn card) ≡ (holes_path card ++ codes "\"/>") ∷ []
 holes_shown card is_card = tag_shown 112 hole_rest (holes_path card ++ codes "\"/>") refl (none_in_path card is_card)
 
-no_print_in_holes : (card : Card) → IsCard card → behind_tags print_tag (holes_drawn card) ≡ []
+no_print_in_holes : (card : CardImage) → IsImage card → behind_tags print_tag (holes_drawn card) ≡ []
 no_print_in_holes card is_card =
     let alone = none_in_both 60 hole_tag (holes_path card ++ codes "\"/>") refl (none_in_path card is_card) in
     rw (one_piece 60 (hole_tag ++ (holes_path card ++ codes "\"/>")) alone) refl
 
 -- the corners in an image with the tags of a card's marks are those of the card's holes
-corners_back : (image : List ℕ) (card : Card) → IsCard card → behind_tags hole_tag image ≡ behind_tags hole_tag (marks card) → corners_read image ≡ corners_of card
+corners_back : (image : List ℕ) (card : CardImage) → IsImage card → behind_tags hole_tag image ≡ behind_tags hole_tag (marks card) → corners_read image ≡ corners_of card
 unfolding corners_read
 corners_back image card is_card tags =
     (elim (length (filled card.0) == 0) as (λ t. (length (filled card.0) == 0) ≡ t → flat_map corners_in (behind_tags hole_tag image) ≡ corners_of card) [
@@ -70,7 +65,7 @@ corners_back image card is_card tags =
     ]) refl
 
 -- such an image has just the holes of the card's punches
-pub punches_shown : (image : List ℕ) (card : Card) → IsCard card → behind_tags hole_tag image ≡ behind_tags hole_tag (marks card) → HasThePunches image card
+pub punches_shown : (image : List ℕ) (card : CardImage) → IsImage card → behind_tags hole_tag image ≡ behind_tags hole_tag (marks card) → HasThePunches image card
 punches_shown image card is_card tags place =
     let back = corners_back image card is_card tags in (
       λ has.
@@ -86,18 +81,18 @@ punches_shown image card is_card tags place =
     )
 
 -- and its print is the glyphs of the card
-pub print_back : (image : List ℕ) (card : Card) → IsCard card → behind_tags print_tag image ≡ behind_tags print_tag (marks card) → HasThePrint image card
+pub print_back : (image : List ℕ) (card : CardImage) → IsImage card → behind_tags print_tag image ≡ behind_tags print_tag (marks card) → HasThePrint image card
 unfolding print_read
 print_back image card is_card tags =
-    (elim (length (filled card.0) == 0) as (λ t. (length (filled card.0) == 0) ≡ t → flat_map (λ (text : List ℕ). text) (map unescaped (behind_tags print_tag image)) ≡ map glyph_of (filled card.0)) [
+    (elim (length (filled card.0) == 0) as (λ t. (length (filled card.0) == 0) ≡ t → flat_map (λ (text : List ℕ). text) (map unescaped (behind_tags print_tag image)) ≡ map glyph_printed (filled card.0)) [
       | true ↦ λ blank.
           let none : filled card.0 ≡ [] = nil_from_length (filled card.0) (grind (arith, blank)) in
           ap (λ texts. flat_map (λ (text : List ℕ). text) (map unescaped texts)) (tags ∙ ap (behind_tags print_tag) (blank_marks card blank))
-          ∙ ap (map glyph_of) (sym none)
+          ∙ ap (map glyph_printed) (sym none)
       | false ↦ λ other.
           let glyphs : behind_tags print_tag (holes_drawn card) ++ behind_tags print_tag (print card) ≡ card_glyphs card ∷ [] = rw (no_print_in_holes card is_card, print_shown card) refl in
           ap (λ texts. flat_map (λ (text : List ℕ). text) (map unescaped texts)) (tags ∙ ap (behind_tags print_tag) (other_marks card other)
           ∙ behind_both 116 print_rest (holes_drawn card) (print card) refl ∙ glyphs)
           ∙ append-nil (unescaped (card_glyphs card))
-          ∙ text_read (map glyph_of (filled card.0))
+          ∙ text_read (map glyph_printed (filled card.0))
     ]) refl

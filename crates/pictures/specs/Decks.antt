@@ -1,6 +1,6 @@
 -- the page of a deck
 use Rattle.std.specs.Prelude.{ℕ, ◌+◌, List, [], ◌∷◌, ◌++◌, codes, decimal}
-use Rattle.cards.specs.declared.Card.{Card}
+use Rattle.card_forms.specs.declared.images.CardImage.{CardImage}
 use Rattle.pictures.specs.Cards.{marks, stock}
 use Rattle.pictures.specs.Escapes.{card_glyphs}
 use Rattle.pictures.specs.declared.styles.TheConstants.{CARD_STYLE, DECK_STYLE, FIGURE_STYLE}
@@ -12,7 +12,7 @@ stock_definition =
     ++ stock ++ codes "</g></defs></svg>\n"
 
 -- the title of the figure of a card: its number and its glyphs
-abbrev pub titled_by_number : ℕ → Card → List ℕ
+abbrev pub titled_by_number : ℕ → CardImage → List ℕ
 titled_by_number number card = codes "<title>card " ++ decimal number ++ codes ": "
     ++ card_glyphs card ++ codes "</title>"
 
@@ -21,14 +21,14 @@ abbrev pub captioned : ℕ → List ℕ
 captioned number = codes "<figcaption>" ++ decimal number ++ codes "</figcaption>"
 
 -- the figure of a card with this number
-unfoldable pub figure : ℕ → Card → List ℕ
+unfoldable pub figure : ℕ → CardImage → List ℕ
 figure number card =
     codes "<figure><svg xmlns=\"http://www.w3.org/2000/svg\" viewBox=\"0 0 7375 3250\">"
     ++ titled_by_number number card ++ codes "<use href=\"#stock\"/>" ++ marks card
     ++ codes "</svg>" ++ captioned number ++ codes "</figure>\n"
 
 -- the figures of cards that are numbered from this number on
-unfoldable pub figures_from : ℕ → List Card → List ℕ
+unfoldable pub figures_from : ℕ → List CardImage → List ℕ
 figures_from number [] = []
 figures_from number (card ∷ cards) = figure number card ++ figures_from (number + 1) cards
 
@@ -38,5 +38,5 @@ deck_head = codes "<!DOCTYPE html><html lang=en><meta charset=utf-8><title>Deck<
     ++ DECK_STYLE.now ++ FIGURE_STYLE.now ++ CARD_STYLE.now ++ codes "</style>\n"
 
 -- the page of a deck
-abbrev pub deck_page_of : List Card → List ℕ
+abbrev pub deck_page_of : List CardImage → List ℕ
 deck_page_of deck = deck_head ++ stock_definition ++ figures_from 1 deck

@@ -2,10 +2,11 @@
 use Rattle.std.specs.Prelude.{ℕ, ◌≡◌, ◌≢◌, ◌≤◌, ◌↔◌, nat_eq, ◌==◌, ◌-◌, bit_and, if◌then◌else◌, List, [], ◌∷◌, ◌++◌, length, map, filter, drop, slice_index, codes}
 use Rattle.std.specs.List.{Contains, flat_map, slice_split, starts_with, before_first, after_first, join_with_byte}
 use Rattle.std.specs.Str.Parse.{digits_value}
-use Rattle.bcd.specs.Table.{glyph_of, punches_of, row}
-use Rattle.cards.specs.declared.Card.{Card}
+use Rattle.bcd.specs.Table.{row}
 use Rattle.card_forms.specs.Signs.{filled}
+use Rattle.card_forms.specs.declared.images.CardImage.{CardImage}
 use Rattle.pictures.specs.Cards.{places}
+use Rattle.pictures.specs.Escapes.{glyph_printed}
 use Rattle.pictures.specs.Places.{corner, rows}
 
 -- the pieces of a text between the bytes that are this mark
@@ -73,13 +74,12 @@ hole_tag = codes "path class=\"hole\" d=\""
 unfoldable pub corners_read : List ℕ → List (ℕ × ℕ)
 corners_read image = flat_map corners_in (behind_tags hole_tag image)
 
--- a card is punched in a column and a row: the bit of the row is set in the punches of the column's
--- character
-pub record IsPunched (card : Card) (column number : ℕ) : Type 0 where
+-- a card is punched in a column and a row: the bit of the row is set in the pattern of the column
+pub record IsPunched (card : CardImage) (column number : ℕ) : Type 0 where
   pub first : 1 ≤ column
   pub last : column ≤ 80
   pub is_row : Contains rows number
-  pub punched : bit_and (punches_of (slice_index card.0 (column - 1))) (row number) ≢ 0
+  pub punched : bit_and (slice_index card.0 (column - 1)) (row number) ≢ 0
 
 -- an image has a hole whose upper left corner is this one
 abbrev pub HasHole : List ℕ → ℕ × ℕ → Type 0
@@ -87,17 +87,18 @@ HasHole image place = Contains (corners_read image) place
 
 -- the holes of an image are the punches of a card: the corners are those of the columns and rows in
 -- which the card is punched, and no others
-abbrev pub HasThePunches : List ℕ → Card → Type 0
+abbrev pub HasThePunches : List ℕ → CardImage → Type 0
 HasThePunches image card = (place : ℕ × ℕ) → HasHole image place
     ↔ ((column : ℕ) × (number : ℕ) × (place ≡ corner (column, number))
     × IsPunched card column number)
 
--- the print of an image is the glyphs of a card up to the last column that is not blank
-abbrev pub HasThePrint : List ℕ → Card → Type 0
-HasThePrint image card = print_read image ≡ map glyph_of (filled card.0)
+-- the print of an image is the glyphs of a card up to the last column that is not blank, with a blank
+-- for a column that is no character
+abbrev pub HasThePrint : List ℕ → CardImage → Type 0
+HasThePrint image card = print_read image ≡ map glyph_printed (filled card.0)
 
 -- an image shows a card
-abbrev pub Shows : List ℕ → Card → Type 0
+abbrev pub Shows : List ℕ → CardImage → Type 0
 Shows image card = HasThePunches image card × HasThePrint image card
 
 -- the figures of a page: its lines that begin with the tag of a figure

@@ -7,12 +7,11 @@ use crate::escapes::push_card_glyphs;
 use crate::holes::push_holes;
 use crate::stocks::{push_places, push_stock};
 use crate::styles::CARD_STYLE;
-use card_forms::filled;
-use cards::Card;
+use card_forms::{CardImage, filled_columns};
 use std::alloc::{AllocError, Global};
 
 /// Adds the holes of a card.
-fn push_holes_drawn(out: &mut Vec<u8>, card: &Card) -> Result<(), AllocError>
+fn push_holes_drawn(out: &mut Vec<u8>, card: &CardImage) -> Result<(), AllocError>
     ensures { OnOk result (out.new.items ≡ out.old.items ++ holes_drawn card.now) }
 {
     out.extend_from_slice(b"<path class=\"hole\" d=\"")?;
@@ -22,7 +21,7 @@ fn push_holes_drawn(out: &mut Vec<u8>, card: &Card) -> Result<(), AllocError>
 }
 
 /// Adds the print of a card: its glyphs at the upper edge.
-fn push_print(out: &mut Vec<u8>, card: &Card) -> Result<(), AllocError>
+fn push_print(out: &mut Vec<u8>, card: &CardImage) -> Result<(), AllocError>
     ensures { OnOk result (out.new.items ≡ out.old.items ++ print card.now) }
 {
     out.extend_from_slice(b"<text class=\"print\" y=\"150\" x=\"")?;
@@ -34,10 +33,10 @@ fn push_print(out: &mut Vec<u8>, card: &Card) -> Result<(), AllocError>
 }
 
 /// Adds the holes and the print of a card, where it is not blank.
-pub(crate) fn push_marks(out: &mut Vec<u8>, card: &Card) -> Result<(), AllocError>
+pub(crate) fn push_marks(out: &mut Vec<u8>, card: &CardImage) -> Result<(), AllocError>
     ensures { OnOk result (out.new.items ≡ out.old.items ++ marks card.now) }
 {
-    if filled(card).is_empty() {
+    if filled_columns(card).is_empty() {
         return Ok(());
     }
     push_holes_drawn(out, card)?;
@@ -46,7 +45,7 @@ pub(crate) fn push_marks(out: &mut Vec<u8>, card: &Card) -> Result<(), AllocErro
 }
 
 /// Adds the title, the style and the stock of a card's picture.
-fn push_titled(out: &mut Vec<u8>, card: &Card) -> Result<(), AllocError>
+fn push_titled(out: &mut Vec<u8>, card: &CardImage) -> Result<(), AllocError>
     ensures { OnOk result (out.new.items ≡ out.old.items ++ titled card.now) }
 {
     out.extend_from_slice(b"<title>")?;
@@ -63,10 +62,11 @@ const OPENING: &[u8] = b"<svg xmlns=\"http://www.w3.org/2000/svg\" viewBox=\"0 0
     width=\"7.375in\" height=\"3.25in\">";
 
 /// Returns the picture of a card, an SVG that stands alone: the card's glyphs as its title, the
-/// paper with its rows of digits, a hole at each punch, and the glyphs at the upper edge.
+/// paper with its rows of digits, its holes, and the glyphs at the upper edge, where a column that is
+/// no character is blank.
 ///
 /// Fails only if there is no memory.
-pub fn card_picture(alloc: Global, card: &Card) -> Result<Vec<u8>, AllocError>
+pub fn card_picture(alloc: Global, card: &CardImage) -> Result<Vec<u8>, AllocError>
     ensures { IfOk result (λ text. text.items ≡ picture card.now) }
 {
     let mut out = Vec::from_slice(alloc, OPENING)?;

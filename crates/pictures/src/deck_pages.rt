@@ -7,7 +7,7 @@ use crate::card_pictures::push_marks;
 use crate::escapes::push_card_glyphs;
 use crate::stocks::push_stock;
 use crate::styles::{CARD_STYLE, DECK_STYLE, FIGURE_STYLE};
-use cards::Card;
+use card_forms::CardImage;
 use std::alloc::{AllocError, Global};
 use texts::push_number_between;
 
@@ -24,7 +24,7 @@ pub fn push_stock_definition(out: &mut Vec<u8>) -> Result<(), AllocError>
 }
 
 /// Adds the title of the figure of a card: its number and its glyphs.
-fn push_title(out: &mut Vec<u8>, number: usize, card: &Card) -> Result<(), AllocError>
+fn push_title(out: &mut Vec<u8>, number: usize, card: &CardImage) -> Result<(), AllocError>
     ensures { OnOk result (out.new.items ≡ out.old.items ++ titled_by_number number card.now) }
 {
     push_number_between(out, b"<title>card ", number, b": ")?;
@@ -41,7 +41,7 @@ fn push_caption(out: &mut Vec<u8>, number: usize) -> Result<(), AllocError>
 }
 
 /// Adds the figure of a card with its number under it.
-fn push_card_figure(out: &mut Vec<u8>, number: usize, card: &Card) -> Result<(), AllocError>
+fn push_card_figure(out: &mut Vec<u8>, number: usize, card: &CardImage) -> Result<(), AllocError>
     ensures { OnOk result (out.new.items ≡ out.old.items ++ figure number card.now) }
 {
     out.extend_from_slice(
@@ -71,7 +71,7 @@ fn push_head(out: &mut Vec<u8>) -> Result<(), AllocError>
 
 /// Adds the figures of cards, each with its number under it, for a page that has the stock already
 /// ([`push_stock_definition`]).
-pub fn push_card_figures(out: &mut Vec<u8>, cards: &[Card]) -> Result<(), AllocError>
+pub fn push_card_figures(out: &mut Vec<u8>, cards: &[CardImage]) -> Result<(), AllocError>
     ensures { OnOk result (out.new.items ≡ out.old.items ++ figures_from 1 cards.now) }
 {
     for (index, card) in cards.iter().enumerate() {
@@ -84,7 +84,7 @@ pub fn push_card_figures(out: &mut Vec<u8>, cards: &[Card]) -> Result<(), AllocE
 /// each under it.
 ///
 /// Fails only if there is no memory.
-pub fn deck_page(alloc: Global, deck: &[Card]) -> Result<Vec<u8>, AllocError>
+pub fn deck_page(alloc: Global, deck: &[CardImage]) -> Result<Vec<u8>, AllocError>
     ensures { IfOk result (λ page. page.items ≡ deck_page_of deck.now) }
 {
     let mut out = Vec::new(alloc);

@@ -1,11 +1,9 @@
 //! Texts as they stand in a page.
 
 ghost use Rattle.std.specs.Prelude.{◌≡◌, ◌++◌, OnOk};
-ghost use Rattle.pictures.specs.Escapes.{card_glyphs, escape_of, escaped, glyphs_shown};
+ghost use Rattle.pictures.specs.Escapes.{card_glyphs, escape_of, escaped, glyph_printed, glyphs_shown};
 
-use bcd::Code;
-use card_forms::filled;
-use cards::Card;
+use card_forms::{CardImage, character_of, filled_columns};
 use std::alloc::AllocError;
 use texts::push_decimal;
 
@@ -32,19 +30,30 @@ pub fn push_escaped(out: &mut Vec<u8>, text: &[u8]) -> Result<(), AllocError>
     Ok(())
 }
 
-/// Adds the glyphs of characters as they stand in a page.
-fn push_glyphs(out: &mut Vec<u8>, codes: &[Code]) -> Result<(), AllocError>
-    ensures { OnOk result (out.new.items ≡ out.old.items ++ glyphs_shown codes.now) }
+/// What is printed of a column: the glyph of its character, or a blank where it is none.
+#[tactic(auto, unfolding(crate::specs::Escapes::glyph_printed))]
+fn glyph_printed(pattern: u16) -> u8
+    ensures { result ≡ glyph_printed pattern }
 {
-    for code in codes {
-        push_escape(out, code.glyph())?;
+    match character_of(pattern) {
+        Some(code) => code.glyph(),
+        None => b' ',
+    }
+}
+
+/// Adds the glyphs of columns as they stand in a page.
+fn push_glyphs(out: &mut Vec<u8>, patterns: &[u16]) -> Result<(), AllocError>
+    ensures { OnOk result (out.new.items ≡ out.old.items ++ glyphs_shown patterns.now) }
+{
+    for pattern in patterns {
+        push_escape(out, glyph_printed(*pattern))?;
     }
     Ok(())
 }
 
 /// Adds the glyphs of a card, up to the last column that is not blank, as they stand in a page.
-pub(crate) fn push_card_glyphs(out: &mut Vec<u8>, card: &Card) -> Result<(), AllocError>
+pub(crate) fn push_card_glyphs(out: &mut Vec<u8>, card: &CardImage) -> Result<(), AllocError>
     ensures { OnOk result (out.new.items ≡ out.old.items ++ card_glyphs card.now) }
 {
-    push_glyphs(out, filled(card))
+    push_glyphs(out, filled_columns(card))
 }

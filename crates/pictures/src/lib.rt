@@ -1,15 +1,15 @@
 //! Pictures of punched cards, as SVG and as an HTML page, and of listings, as HTML pages of
 //! continuous forms with green bars.
 //!
-//! Each picture is one text that needs no other file. The crate uses `cards`, and `card_forms` for
-//! the columns of a card that are filled. Its contract for the layers above: each text is exactly
+//! Each picture is one text that needs no other file. The crate uses of `card_forms` the images of
+//! cards, whose columns need be no characters. Its contract for the layers above: each text is exactly
 //! that of a definition (`specs/Cards.antt`, `specs/Decks.antt`, `specs/Forms.antt`), and a listing
 //! with a byte that no page shows, or with a line of over 132 columns, is refused with the first
 //! such place (`specs/Faults.antt`). What is pushed can be joined into other pages.
 //!
 //! The laws read the texts back (`specs/Reading.antt`): the holes in a picture are the punches of
 //! its card ([`holes_are_the_punches`]), its print is the card's glyphs ([`print_is_read`]), no two
-//! cards have one picture ([`pictures_differ`]), the figures on the page of a deck show its cards
+//! cards of characters have one picture ([`pictures_differ`]), the figures on the page of a deck show its cards
 //! ([`figures_are_the_cards`]), and the forms on the pages are the listing ([`listing_is_read`]).
 #![tactic(auto)]
 

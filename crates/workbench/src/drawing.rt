@@ -2,15 +2,15 @@
 
 use crate::process::Process;
 use crate::undone::Undone;
-use cards::{Card, Deck};
+use card_forms::CardImage;
 use command_line::Status;
 use pictures::{ListingError, ListingFault, card_picture, deck_page, listing_pages};
 use std::io;
 use std::io::Write;
 
 /// The card of a deck with this number, the first being 1.
-fn card_with(deck: &Deck, number: u32) -> Option<&Card> {
-    deck.cards().get((number as usize).checked_sub(1)?)
+fn card_with(deck: &[CardImage], number: u32) -> Option<&CardImage> {
+    deck.get((number as usize).checked_sub(1)?)
 }
 
 /// Writes the picture of the card of a deck with this number.
@@ -19,9 +19,9 @@ pub(crate) fn draw_card<W: Write, E: Write>(
     (path, out): (&str, &str),
     number: u32,
 ) -> Result<Status, Undone> {
-    let deck = process.deck_at(path)?;
+    let deck = process.images_at(path)?;
     let Some(card) = card_with(&deck, number) else {
-        let count = deck.cards().len();
+        let count = deck.len();
         writeln!(
             process.errors,
             "{path}: there is no card {number}; it has {count}"
@@ -37,8 +37,8 @@ pub(crate) fn draw_deck<W: Write, E: Write>(
     process: &mut Process<W, E>,
     (path, out): (&str, &str),
 ) -> Result<Status, Undone> {
-    let deck = process.deck_at(path)?;
-    let page = deck_page(process.alloc(), deck.cards())?;
+    let deck = process.images_at(path)?;
+    let page = deck_page(process.alloc(), &deck)?;
     process.write(out, &page)
 }
 

@@ -6,4 +6,4 @@ use Rattle.pictures.proofs.holes.push_column.Given as goal
 
 abbrev pub invariant-loop-row : goal.invariant-loop-row
 invariant-loop-row l =
-    l.out.items ≡ l.fn.out.items ++ flat_map (hole_if_punched l.left l.punches) (take l.row-index ROWS)
+    l.out.items ≡ l.fn.out.items ++ flat_map (hole_if_punched l.left l.pattern) (take l.row-index ROWS)

@@ -7,9 +7,9 @@ use Rattle.pictures.proofs.holes.push_columns.Goals as goal
 pub loop-index-preserved : goal.loop-index-preserved
 loop-index-preserved c =
     let i = c.loop-index.index in
-    let codes = c.args.codes.now in
-    let code = c.index-codes-index.result in
-    let left = left_from codes i code c.loop-index-test.true c.index-codes-index.is in
+    let codes = c.args.patterns.now in
+    let code = c.index-patterns-index.result in
+    let left = left_from codes i code c.loop-index-test.true c.index-patterns-index.is in
     ap (λ out. out ++ outlines (holes_from (i + 1 + 1) (drop (i + 1) codes))) c.in_ok-push_column.ensures
     ∙ holes_on (i + 1) code (drop (i + 1) codes) (drop i codes) c.loop-index.out.items left
     ∙ c.loop-index.invariant
@@ -17,4 +17,4 @@ loop-index-preserved c =
 pub returns : goal.returns
 unfolding holes_from
 returns c =
-    all_done (λ codes. outlines (holes_from (c.loop-index.index + 1) codes)) c.args.codes.now c.loop-index.index _ _ c.loop-index-test.false refl c.loop-index.invariant
+    all_done (λ codes. outlines (holes_from (c.loop-index.index + 1) codes)) c.args.patterns.now c.loop-index.index _ _ c.loop-index-test.false refl c.loop-index.invariant
