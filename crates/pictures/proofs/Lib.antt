@@ -11,3 +11,4 @@ pub mod TextsRead
 pub mod MarksRead
 pub mod DeckLaw
 pub mod CardLaw
+pub mod PatternLaw

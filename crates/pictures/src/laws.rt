@@ -29,9 +29,11 @@ pub fn print_is_read()
         print_read (picture (image_of card)) ≡ map glyph_of (filled card.0) }
 {}
 
-/// The law of pictures: two cards of characters with one picture are one card.
+/// The law of pictures: two cards with one picture are one card.
 pub fn pictures_differ()
-    ensures { (one two : Card) → IsCard one → IsCard two →
+    ensures images { (one two : CardImage) → IsImage one → IsImage two →
+        picture one ≡ picture two → one ≡ two }
+    ensures characters { (one two : Card) → IsCard one → IsCard two →
         picture (image_of one) ≡ picture (image_of two) → one ≡ two }
 {}
 

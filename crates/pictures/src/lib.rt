@@ -9,7 +9,7 @@
 //!
 //! The laws read the texts back (`specs/Reading.antt`): the holes in a picture are the punches of
 //! its card ([`holes_are_the_punches`]), its print is the card's glyphs ([`print_is_read`]), no two
-//! cards of characters have one picture ([`pictures_differ`]), the figures on the page of a deck show its cards
+//! cards have one picture ([`pictures_differ`]), the figures on the page of a deck show its cards
 //! ([`figures_are_the_cards`]), and the forms on the pages are the listing ([`listing_is_read`]).
 #![tactic(auto)]
 
