@@ -82,6 +82,7 @@ fn split_digit(bytes: &[u8]) -> Option<(u16, &[u8])>
 }
 
 /// The pattern of three digits, and the bytes behind them.
+#[tactic(auto, using(crate::proofs::ImageColumns::digits_begin, crate::proofs::ImageColumns::first_wrong, crate::proofs::ImageColumns::second_wrong, crate::proofs::ImageColumns::third_wrong))]
 fn split_digits(bytes: &[u8]) -> Result<(u16, &[u8]), FormError>
     ensures column { IfOk result (λ found.
         BeginsWithColumn ColumnForm.Digits bytes.now found.0 found.1.now) }
@@ -101,6 +102,7 @@ fn split_digits(bytes: &[u8]) -> Result<(u16, &[u8]), FormError>
 }
 
 /// The pattern of a glyph's character, and the bytes behind it.
+#[tactic(auto, using(crate::proofs::ImageColumns::glyph_begins, crate::proofs::ImageColumns::no_glyph, crate::proofs::ImageColumns::nothing_begins))]
 fn split_glyph(bytes: &[u8]) -> Result<(u16, &[u8]), FormError>
     ensures column { IfOk result (λ found.
         BeginsWithColumn ColumnForm.Glyph bytes.now found.0 found.1.now) }
@@ -117,6 +119,7 @@ fn split_glyph(bytes: &[u8]) -> Result<(u16, &[u8]), FormError>
 }
 
 /// The pattern of two bytes of six rows, and the bytes behind them.
+#[tactic(auto, using(crate::proofs::ImageColumns::bits_begin, crate::proofs::ImageColumns::half_wrong, crate::proofs::ImageColumns::lower_wrong, crate::proofs::ImageColumns::upper_wrong))]
 fn split_bits(bytes: &[u8]) -> Result<(u16, &[u8]), FormError>
     ensures column { IfOk result (λ found.
         BeginsWithColumn ColumnForm.Bits bytes.now found.0 found.1.now) }

@@ -102,7 +102,10 @@ pub fn filled_columns(image: &CardImage) -> &[u16]
 pub(crate) fn odd_column(image: &CardImage) -> Option<usize>
     ensures { result ≡ odd_column image.now }
 {
-    image.0.iter().position(|pattern| !is_character(*pattern))
+    let columns: &[u16] = &image.0;
+    columns
+        .iter()
+        .position(|pattern| !is_character(*pattern))
 }
 
 /// The place of the first card with a column that is no character.

@@ -1,6 +1,6 @@
 //! Parts of a deck, and the cards on which a number stands.
 
-ghost use Rattle.std.specs.Prelude.{◌≡◌, ◌≤◌, length, drop, IfSome, IsNone};
+ghost use Rattle.std.specs.Prelude.{◌≡◌, ◌<◌, ◌≤◌, length, drop, IfSome, IsNone};
 ghost use Rattle.card_tools.specs.{
   Cutting.{HasPart, first_with, has_number, next_behind, number_place, part_of},
   Lines.{columns_shown},
@@ -73,9 +73,18 @@ fn has_number(image: &CardImage, number: &[u8]) -> bool
 
 /// The place of the first card on which this stands, from 0.
 fn first_with(images: &[CardImage], number: &[u8]) -> Option<usize>
-    ensures { result ≡ first_with number.now images.now }
+    ensures first { result ≡ first_with number.now images.now }
+    ensures within { IfSome result (λ place. place < length images.now) }
 {
     images.iter().position(|image| has_number(image, number))
+}
+
+/// The cards from one with this place on, from 0.
+fn from_place(images: &[CardImage], place: usize) -> &[CardImage]
+    requires { place ≤ length images.now }
+    ensures { result.now ≡ drop place images.now }
+{
+    &images[place..]
 }
 
 /// Returns on which cards something stands in the columns 73 to 80, where a column that is no
@@ -86,7 +95,7 @@ pub fn number_place(images: &[CardImage], number: &[u8]) -> NumberPlace
     let Some(place) = first_with(images, number) else {
         return NumberPlace::Nowhere;
     };
-    match first_with(&images[place + 1..], number) {
+    match first_with(from_place(images, place + 1), number) {
         None => NumberPlace::Once(place + 1),
         Some(next) => NumberPlace::Twice(place + 1, place + 1 + next + 1),
     }
