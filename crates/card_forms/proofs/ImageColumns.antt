@@ -11,7 +11,7 @@ use Rattle.cards.specs.Faults.{IsNoDigit}
 use Rattle.cards.specs.Files.{BeginsWithDigit, hexadecimal}
 use Rattle.card_forms.proofs.ImageCharacters.{glyph_is, glyph_of_character, is_one}
 use Rattle.card_forms.specs.ImageFaults.{IsCardFault, IsNoColumn, IsNoEnd, column_wrong}
-use Rattle.card_forms.specs.ImageFiles.{BeginsWithColumn, IsImageIn, MayStand, column_of, end_of, line_of}
+use Rattle.card_forms.specs.ImageFiles.{BeginsWithColumn, IsImageIn, MayStand, column_of, end_of, line_of, lines_of}
 use Rattle.card_forms.specs.Images.{IsImage, character_of, is_character}
 use Rattle.card_forms.specs.declared.columns.ColumnForm.{ColumnForm}
 use Rattle.card_forms.specs.declared.columns.ColumnForm.TheVariants.{Glyph, Digits, Bits}
@@ -170,3 +170,20 @@ columns_long Bits (pattern ∷ columns) = omega (arith, columns_long Bits column
 pub line_long : (form : ColumnForm) (image : CardImage) → IsImageIn form image → 80 ≤ length (line_of form image)
 line_long form image is =
     omega (arith, is.0, columns_long form image.0, length-append (flat_map (column_of form) image.0) (end_of form))
+
+-- a card is shorter than the bytes that begin with it
+pub card_shorter : (form : ColumnForm) (bytes behind : List ℕ) (image : CardImage) → IsImageIn form image
+    → bytes ≡ line_of form image ++ behind → length behind < length bytes
+card_shorter form bytes behind image is line =
+    omega (arith, ap length line, length-append (line_of form image) behind, line_long form image is)
+
+-- one card more
+pub cards_more : (form : ColumnForm) (bytes rest behind : List ℕ) (images : List CardImage) (image : CardImage)
+    → bytes ≡ lines_of form images ++ rest → rest ≡ line_of form image ++ behind
+    → bytes ≡ lines_of form (images ++ image ∷ []) ++ behind
+cards_more form bytes rest behind images image before line =
+    let more : lines_of form (images ++ image ∷ []) ≡ lines_of form images ++ line_of form image =
+    flat_map-append (line_of form) images (image ∷ []) ∙ ap (λ (last : List ℕ). lines_of form images ++ last) (append-nil (line_of form image)) in
+    before ∙ ap (λ (rest : List ℕ). lines_of form images ++ rest) line
+    ∙ sym (append_assoc (lines_of form images) (line_of form image) behind)
+    ∙ ap (λ (front : List ℕ). front ++ behind) (sym more)

@@ -1,19 +1,20 @@
 -- the images of a deck's cards, and their files
-use Rattle.std.proofs.Common.{◌≡◌, ℕ, ◌<◌, ◌==◌, true, false, not, Bool, List, [], ◌∷◌, ◌++◌, Option, Some, None, is_some, length, map, position, get_or, refl, ap, sym, ◌∙◌, arith, append-nil}
+use Rattle.std.proofs.Common.{◌≡◌, ℕ, ◌<◌, ◌==◌, true, false, not, Bool, List, [], ◌∷◌, ◌++◌, Option, Some, None, is_some, length, map, position, get_or, refl, ap, sym, ◌∙◌, arith, append_assoc, append-nil}
 use Rattle.std.specs.List.{All, flat_map}
 use Rattle.std.proofs.lemmas.Bool.{eqb-true, eqb-false, ne_eqb}
 use Rattle.std.proofs.lemmas.List.{length-map}
 use Rattle.std.proofs.lemmas.List.Elements.{All-head, All-tail, All-map}
 use Rattle.std.proofs.lemmas.List.Quantifiers.{position-Some}
 use Rattle.bcd.proofs.Tables.{punches_differ}
-use Rattle.bcd.specs.Table.{punches_of, zone_of}
+use Rattle.bcd.specs.Table.{glyph_of, punches_of, zone_of}
 use Rattle.cards.proofs.FormColumns.{twelve_rows}
 use Rattle.cards.specs.Decks.{AreCharacters, IsCard, IsDeck}
-use Rattle.cards.specs.Files.{column_of as card_column, digits_of, punch_file_of, text_of}
+use Rattle.cards.specs.Files.{digits_of, punch_file_of, text_of}
 use Rattle.cards.specs.declared.Card.{Card}
-use Rattle.cards.specs.declared.forms.Form.TheVariants as card
+use Rattle.card_forms.proofs.BinaryColumns.{digits_for, file_on}
 use Rattle.card_forms.proofs.FilledColumns.{filled_characters}
 use Rattle.card_forms.proofs.ImageCharacters.{glyph_is, is_one, sign_is}
+use Rattle.card_forms.proofs.SimhLines.{text_on}
 use Rattle.card_forms.specs.ColumnBinary.{binary_of, column_bytes}
 use Rattle.card_forms.specs.Forms as forms
 use Rattle.card_forms.specs.Forms.{IsFileOf}
@@ -33,14 +34,14 @@ abbrev IsNumber : ℕ → Type 0
 IsNumber code = code < 64
 
 -- the columns of characters, in each form
-glyph_columns : (codes : List ℕ) → AreCharacters codes → flat_map (column_of Glyph) (map punches_of codes) ≡ flat_map (card_column card.Text) codes
-unfolding column_of card_column
+glyph_columns : (codes : List ℕ) → AreCharacters codes → flat_map (column_of Glyph) (map punches_of codes) ≡ map glyph_of codes
+unfolding column_of
 glyph_columns [] each = refl
 glyph_columns (code ∷ codes) each =
     rw (glyph_is code (All-head IsNumber code codes each), glyph_columns codes (All-tail IsNumber code codes each)) refl
 
-digit_columns : (codes : List ℕ) → flat_map (column_of Digits) (map punches_of codes) ≡ flat_map (card_column card.Punched) codes
-unfolding column_of card_column
+digit_columns : (codes : List ℕ) → flat_map (column_of Digits) (map punches_of codes) ≡ flat_map digits_for codes
+unfolding column_of
 digit_columns [] = refl
 digit_columns (code ∷ codes) = ap (λ (rest : List ℕ). digits_of (punches_of code) ++ rest) (digit_columns codes)
 
@@ -54,13 +55,16 @@ pub glyph_lines : (deck : List Card) → All IsCard deck → lines_of Glyph (ima
 glyph_lines [] each = refl
 glyph_lines (first ∷ deck) each =
     ap (λ (columns : List ℕ). (columns ++ 10 ∷ []) ++ lines_of Glyph (images_of deck)) (glyph_columns first.0 (All-head IsCard first deck each).1)
-    ∙ ap (λ (rest : List ℕ). (flat_map (card_column card.Text) first.0 ++ 10 ∷ []) ++ rest) (glyph_lines deck (All-tail IsCard first deck each))
+    ∙ ap (λ (rest : List ℕ). (map glyph_of first.0 ++ 10 ∷ []) ++ rest) (glyph_lines deck (All-tail IsCard first deck each))
+    ∙ sym (text_on first deck)
 
 pub digit_lines : (deck : List Card) → lines_of Digits (images_of deck) ≡ punch_file_of deck
 digit_lines [] = refl
 digit_lines (first ∷ deck) =
     ap (λ (columns : List ℕ). (columns ++ 10 ∷ []) ++ lines_of Digits (images_of deck)) (digit_columns first.0)
-    ∙ ap (λ (rest : List ℕ). (flat_map (card_column card.Punched) first.0 ++ 10 ∷ []) ++ rest) (digit_lines deck)
+    ∙ append_assoc (flat_map digits_for first.0) (10 ∷ []) (lines_of Digits (images_of deck))
+    ∙ ap (λ (rest : List ℕ). flat_map digits_for first.0 ++ 10 ∷ rest) (digit_lines deck)
+    ∙ sym (file_on first deck)
 
 pub bit_lines : (deck : List Card) → lines_of Bits (images_of deck) ≡ binary_of deck
 bit_lines [] = refl

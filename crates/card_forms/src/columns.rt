@@ -1,6 +1,6 @@
 //! The columns of cards, as they stand in a file.
 
-ghost use Rattle.std.specs.Prelude.{◌≡◌, ◌≢◌, ◌<◌, ℕ, List, ◌∷◌, ◌++◌, length, IfOk, IfErr, OnErr, OnOk, IfSome, IsNone};
+ghost use Rattle.std.specs.Prelude.{◌≡◌, ◌≢◌, ◌<◌, ℕ, List, [], ◌∷◌, ◌++◌, length, IfOk, IfErr, OnErr, OnOk, IfSome, IsNone};
 ghost use Rattle.cards.specs.{
   Faults.{IsNoDigit},
   Files.{BeginsWithDigit, hexadecimal},
@@ -67,12 +67,23 @@ fn digit_value(byte: u8) -> Option<u16>
     None
 }
 
+/// The first byte, and the bytes behind it.
+fn split_byte(bytes: &[u8]) -> Option<(u8, &[u8])>
+    ensures found { IfSome result (λ found. bytes.now ≡ found.0 ∷ found.1.now) }
+    ensures none { IsNone result → bytes.now ≡ [] }
+{
+    match bytes {
+        [first, rest @ ..] => Some((*first, rest)),
+        [] => None,
+    }
+}
+
 /// The value of the first digit, and the bytes behind it.
 fn split_digit(bytes: &[u8]) -> Option<(u16, &[u8])>
     ensures digit { IfSome result (λ found. BeginsWithDigit bytes.now found.0 found.1.now) }
     ensures none { IsNone result → IsNoDigit bytes.now }
 {
-    let Some((&byte, rest)) = bytes.split_first() else {
+    let Some((byte, rest)) = split_byte(bytes) else {
         return None;
     };
     match digit_value(byte) {
@@ -82,7 +93,6 @@ fn split_digit(bytes: &[u8]) -> Option<(u16, &[u8])>
 }
 
 /// The pattern of three digits, and the bytes behind them.
-#[tactic(auto, using(crate::proofs::ImageColumns::digits_begin, crate::proofs::ImageColumns::first_wrong, crate::proofs::ImageColumns::second_wrong, crate::proofs::ImageColumns::third_wrong))]
 fn split_digits(bytes: &[u8]) -> Result<(u16, &[u8]), FormError>
     ensures column { IfOk result (λ found.
         BeginsWithColumn ColumnForm.Digits bytes.now found.0 found.1.now) }
@@ -102,14 +112,13 @@ fn split_digits(bytes: &[u8]) -> Result<(u16, &[u8]), FormError>
 }
 
 /// The pattern of a glyph's character, and the bytes behind it.
-#[tactic(auto, using(crate::proofs::ImageColumns::glyph_begins, crate::proofs::ImageColumns::no_glyph, crate::proofs::ImageColumns::nothing_begins))]
 fn split_glyph(bytes: &[u8]) -> Result<(u16, &[u8]), FormError>
     ensures column { IfOk result (λ found.
         BeginsWithColumn ColumnForm.Glyph bytes.now found.0 found.1.now) }
     ensures none { OnErr result (IsNoColumn ColumnForm.Glyph bytes.now) }
     ensures error { IfErr result (λ error. error ≡ glyph_wrong bytes.now) }
 {
-    let Some((&glyph, rest)) = bytes.split_first() else {
+    let Some((glyph, rest)) = split_byte(bytes) else {
         return Err(FormError::Length);
     };
     match Code::from_glyph(glyph) {
@@ -119,7 +128,7 @@ fn split_glyph(bytes: &[u8]) -> Result<(u16, &[u8]), FormError>
 }
 
 /// The pattern of two bytes of six rows, and the bytes behind them.
-#[tactic(auto, using(crate::proofs::ImageColumns::bits_begin, crate::proofs::ImageColumns::half_wrong, crate::proofs::ImageColumns::lower_wrong, crate::proofs::ImageColumns::upper_wrong))]
+#[tactic(auto, using(crate::proofs::ImageColumns::bits_begin, crate::proofs::ImageColumns::half_wrong))]
 fn split_bits(bytes: &[u8]) -> Result<(u16, &[u8]), FormError>
     ensures column { IfOk result (λ found.
         BeginsWithColumn ColumnForm.Bits bytes.now found.0 found.1.now) }

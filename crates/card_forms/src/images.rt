@@ -100,7 +100,8 @@ pub fn filled_columns(image: &CardImage) -> &[u16]
 
 /// The place of the first column of a card that is no character.
 pub(crate) fn odd_column(image: &CardImage) -> Option<usize>
-    ensures { result ≡ odd_column image.now }
+    ensures first { result ≡ odd_column image.now }
+    ensures within { IfSome result (λ column. column < 80) }
 {
     let columns: &[u16] = &image.0;
     columns
