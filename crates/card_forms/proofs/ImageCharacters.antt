@@ -1,12 +1,10 @@
 -- the characters of patterns
-use Rattle.std.proofs.Common.{◌≡◌, ◌≢◌, ℕ, zero, suc, ◌<◌, ◌≤◌, ◌==◌, true, false, List, length, map, take, get_or, Option, Some, None, is_some, refl, ap, sym, ◌∙◌, arith, inl, inr}
+use Rattle.std.proofs.Common.{◌≡◌, ◌≢◌, ℕ, zero, suc, ◌<◌, ◌≤◌, ◌==◌, true, false, List, get_or, Option, Some, None, is_some, refl, ap, sym, ◌∙◌, arith, inl, inr}
 use Rattle.std.proofs.lemmas.Bool.{cases_lt, eqb-true, eqb-false, lt-ltb, ltb-true, ne_eqb}
-use Rattle.std.proofs.lemmas.List.{take_all}
 use Rattle.std.proofs.lemmas.List.Quantifiers.{position-Some}
 use Rattle.bcd.proofs.Tables.{punches_differ}
 use Rattle.bcd.specs.Table.{glyph_of, punches_of}
-use Rattle.cards.specs.declared.Card.{Card}
-use Rattle.card_forms.specs.Images.{character_among, character_of, glyph_shown, image_of, is_character, odd_card, odd_column, sign_shown}
+use Rattle.card_forms.specs.Images.{character_among, character_of, glyph_shown, is_character, odd_card, odd_column, sign_shown}
 use Rattle.card_forms.specs.Signs.{simh_sign}
 use Rattle.card_forms.specs.declared.images.CardImage.{CardImage}
 
@@ -74,13 +72,6 @@ sign_of_character pattern is = rw is refl
 pub sign_is : (code : ℕ) → code < 64 → sign_shown (punches_of code) ≡ simh_sign code
 sign_is code below =
     sign_of_character (punches_of code) (is_one code below) ∙ ap simh_sign (character_is code (punches_of code) below refl)
-
--- the image of a card, when all of its columns are done
-pub image_whole : (columns : List ℕ) (card : Card) (i : ℕ) → length columns ≤ i → length card.0 ≤ i
-    → take i columns ≡ map punches_of (take i card.0) → record { 0 = columns } ≡ image_of card
-image_whole columns card i here there before =
-    ap (λ (columns : List ℕ). let image : CardImage = record { 0 = columns } in image)
-    (sym (take_all i columns here) ∙ before ∙ ap (map punches_of) (take_all i card.0 there))
 
 -- the first card with an odd column has one
 pub odd_there : (images : List CardImage) (card : ℕ) (d : CardImage) → odd_card images ≡ Some card

@@ -1,6 +1,7 @@
 //! The images of cards: of each column the pattern of its holes.
 
-ghost use Rattle.std.specs.Prelude.{◌≡◌, ◌<◌, IfOk, IfSome, IsNone};
+ghost use Rattle.std.specs.Prelude.{◌≡◌, ◌<◌, length, map, IfOk, IfSome, IsNone};
+ghost use Rattle.bcd.specs.Table.{punches_of};
 ghost use Rattle.card_forms.specs.{
   Images.{are_characters, character_of, glyph_shown, image_of, images_of, is_character, odd_card, odd_column, sign_shown},
   Signs.{filled},
@@ -19,15 +20,23 @@ pub struct CardImage(pub [u16; COLUMNS]);
 /// What is shown of a column whose pattern is no character's. It is none of the 64 glyphs.
 const NO_GLYPH: u8 = b'~';
 
+/// The punches of a card's columns.
+fn patterns(codes: &[Code]) -> [u16; COLUMNS]
+    requires { length codes.now ≡ 80 }
+    ensures { result ≡ map punches_of codes.now }
+{
+    let mut patterns = [0; COLUMNS];
+    for index in 0..COLUMNS {
+        patterns[index] = codes[index].punches();
+    }
+    patterns
+}
+
 /// Returns the image of a card.
 pub fn image_of(card: &Card) -> CardImage
     ensures { result ≡ image_of card.now }
 {
-    let mut columns = [0; COLUMNS];
-    for index in 0..COLUMNS {
-        columns[index] = card.0[index].punches();
-    }
-    CardImage(columns)
+    CardImage(patterns(&card.0))
 }
 
 /// Returns the images of cards, in order. Fails only if there is no memory.
