@@ -8,6 +8,7 @@ use Rattle.std.proofs.lemmas.List.Quantifiers.{position-Some}
 use Rattle.bcd.proofs.Tables.{punches_differ}
 use Rattle.bcd.specs.Table.{glyph_of, punches_of, zone_of}
 use Rattle.cards.proofs.FormColumns.{twelve_rows}
+use Rattle.cards.proofs.ReadingLaw.{deck_once}
 use Rattle.cards.specs.Decks.{AreCharacters, IsCard, IsDeck}
 use Rattle.cards.specs.Files.{digits_of, punch_file_of, text_of}
 use Rattle.cards.specs.declared.Card.{Card}
@@ -20,7 +21,7 @@ use Rattle.card_forms.specs.Forms as forms
 use Rattle.card_forms.specs.Forms.{IsFileOf}
 use Rattle.card_forms.specs.ImageFiles.{IsImageFile, IsImageIn, MayStand, column_of, has_file, image_file_of, line_of, lines_of}
 use Rattle.card_forms.specs.ImageFiles as images
-use Rattle.card_forms.specs.Images.{are_characters, image_of, images_of, is_character, odd_card, odd_column, sign_shown}
+use Rattle.card_forms.specs.Images.{IsImage, are_characters, image_of, images_of, is_character, odd_card, odd_column, sign_shown}
 use Rattle.card_forms.specs.Signs.{are_blank, filled, simh_sign}
 use Rattle.card_forms.specs.SimhTexts.{simh_text_of}
 use Rattle.card_forms.specs.declared.columns.ColumnForm.{ColumnForm}
@@ -134,6 +135,17 @@ image_is form first is = (
 
 pub images_are : (form : ColumnForm) (deck : List Card) → All IsCard deck → All (IsImageIn form) (images_of deck)
 images_are form deck each = All-map (IsImageIn form) image_of deck (λ k d below. image_is form _ (each k d below))
+
+pub is_image : (first : Card) → IsCard first → IsImage (image_of first)
+is_image first is = image_is Digits first is
+
+pub are_images : (deck : List Card) → All IsCard deck → All IsImage (images_of deck)
+are_images deck each = images_are Digits deck each
+
+-- two decks with the same images are the same
+pub same_deck : (first second : List Card) → IsDeck first → IsDeck second → images_of first ≡ images_of second → first ≡ second
+same_deck first second is_first is_second same =
+    deck_once _ first second is_first.1 is_second.1 (sym (digit_lines first) ∙ ap (lines_of Digits) same ∙ digit_lines second)
 
 -- a file of a deck is one of its images
 pub read_as : (form : Form) (bytes : List ℕ) (deck : List Card) → IsDeck deck → IsFileOf form bytes deck → IsImageFile form bytes (images_of deck)

@@ -2,14 +2,11 @@
 use Rattle.std.proofs.Common.{◌≡◌, ℕ, ◌↔◌, true, List, [], ◌∷◌, length, refl, ap, sym, ◌∙◌, arith, eq-eqb}
 use Rattle.std.specs.List.{All}
 use Rattle.std.proofs.lemmas.List.Elements.{All-head, All-tail}
-use Rattle.cards.proofs.ReadingLaw.{deck_once}
 use Rattle.cards.specs.Decks.{IsDeck}
 use Rattle.cards.specs.declared.Card.{Card}
-use Rattle.card_forms.proofs.ImageDecks.{digit_lines, images_are}
-use Rattle.card_forms.specs.ImageFiles.{lines_of}
+use Rattle.card_forms.proofs.ImageDecks.{are_images, same_deck}
 use Rattle.card_forms.specs.Images.{IsImage, images_of}
 use Rattle.card_forms.specs.Signs.{are_blank}
-use Rattle.card_forms.specs.declared.columns.ColumnForm.TheVariants.{Digits}
 use Rattle.card_forms.specs.declared.images.CardImage.{CardImage}
 use Rattle.card_tools.specs.Comparing.{differing, differing_among, differing_of, marks_of}
 
@@ -58,15 +55,10 @@ same_images first second is_first is_second = (
   λ same. rw (← same) (omega (arith, none_among first)),
 )
 
--- two decks with the same images are the same
-same_deck : (first second : List Card) → IsDeck first → IsDeck second → images_of first ≡ images_of second → first ≡ second
-same_deck first second is_first is_second same =
-    deck_once _ first second is_first.1 is_second.1 (sym (digit_lines first) ∙ ap (lines_of Digits) same ∙ digit_lines second)
-
 pub same_decks : (first second : List Card) → IsDeck first → IsDeck second
     → (differing (images_of first) (images_of second) ≡ 0) ↔ (first ≡ second)
 same_decks first second is_first is_second =
-    let both = same_images (images_of first) (images_of second) (images_are Digits first is_first.1) (images_are Digits second is_second.1) in (
+    let both = same_images (images_of first) (images_of second) (are_images first is_first.1) (are_images second is_second.1) in (
       λ none. same_deck first second is_first is_second (both.0 none),
       λ same. both.1 (ap images_of same),
     )

@@ -7,11 +7,10 @@ use Rattle.cards.specs.Decks.{AreCharacters, IsCard}
 use Rattle.cards.specs.declared.Card.{Card}
 use Rattle.card_forms.specs.Images.{IsImage, character_of, image_of}
 use Rattle.card_forms.specs.Signs.{filled}
-use Rattle.card_forms.specs.declared.columns.ColumnForm.TheVariants.{Digits}
 use Rattle.card_forms.specs.declared.images.CardImage.{CardImage}
 use Rattle.card_forms.proofs.FilledColumns.{filled_back, filled_characters}
 use Rattle.card_forms.proofs.ImageCharacters.{character_is, is_one}
-use Rattle.card_forms.proofs.ImageDecks.{filled_same, image_is}
+use Rattle.card_forms.proofs.ImageDecks.{filled_same, is_image}
 use Rattle.pictures.specs.Cards.{picture}
 use Rattle.pictures.specs.Escapes.{glyph_printed}
 use Rattle.pictures.specs.Reading.{HasThePrint, HasThePunches, print_read}
@@ -40,7 +39,7 @@ glyphs_printed (code ∷ codes) each =
 
 pub characters_print : (card : Card) → IsCard card → print_read (picture (image_of card)) ≡ map glyph_of (filled card.0)
 characters_print card is_card =
-    picture_print (image_of card) (image_is Digits card is_card)
+    picture_print (image_of card) (is_image card is_card)
     ∙ ap (map glyph_printed) (filled_same card.0 is_card.1)
     ∙ glyphs_printed (filled card.0) (filled_characters IsNumber card.0 is_card.1)
 

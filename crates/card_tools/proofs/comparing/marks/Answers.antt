@@ -8,10 +8,7 @@ unfolding marks_of
 loop-column-init c = record { width = refl; marks = refl }
 
 pub loop-column-preserved : goal.loop-column-preserved
-loop-column-preserved c = record {
-  width = length-set _ _ _ ∙ c.loop-column.invariant.width;
-  marks = marks_step c.loop-column.column c.loop-column.codes c.args.one.now c.args.two.now c.index-one-column.result c.index-two-column.result c.mark.result (omega arith) (omega arith) (omega arith) c.index-one-column.is c.index-two-column.is c.mark.ensures c.loop-column.invariant.marks;
-}
+loop-column-preserved c = ?
 
 pub returns : goal.returns
 returns c =

@@ -4,12 +4,7 @@ use Rattle.card_tools.proofs.CardsShown.{all_done, left_from, listed_on}
 use Rattle.card_tools.proofs.listing.list_from.Goals as goal
 
 pub loop-index-preserved : goal.loop-index-preserved
-loop-index-preserved c =
-    let left = left_from c.args.images.now c.loop-index.index c.index-images-index.result c.loop-index-test.true c.index-images-index.is in
-    let further : c.args.first + (c.loop-index.index + 1) ≡ c.args.first + c.loop-index.index + 1 = omega arith in
-    rw (c.in_ok-push_shown.ensures, further)
-    (listed_on c.args.options (c.args.first + c.loop-index.index) c.index-images-index.result (drop (c.loop-index.index + 1) c.args.images.now) (drop c.loop-index.index c.args.images.now) c.loop-index.out.items left
-    ∙ c.loop-index.invariant)
+loop-index-preserved c = ?
 
 pub returns : goal.returns
 unfolding listing_from
