@@ -1,6 +1,6 @@
 -- the marks of the columns in which two cards differ
 use Rattle.std.proofs.Common.{◌≡◌, ℕ, zero, suc, ◌+◌, ◌<◌, ◌≤◌, ◌==◌, true, false, if◌then◌else◌, List, [], ◌∷◌, ◌++◌, length, take, get_or, set, refl, ap, sym, ◌∙◌, arith}
-use Rattle.std.proofs.lemmas.List.{take_all, take_more_set, get_or_read}
+use Rattle.std.proofs.lemmas.List.{take_all, take_more_set}
 use Rattle.card_forms.specs.Signs.{are_blank, filled}
 use Rattle.card_forms.specs.declared.images.CardImage.{CardImage}
 use Rattle.card_tools.specs.Comparing.{both_shown, differing_of, marks_of, shown_of}
@@ -24,15 +24,13 @@ marks_more i one two within behind =
     rw next (marks_suc i one two within behind)
 
 -- the marks of one column more
-pub marks_step : (i : ℕ) (codes one two : List ℕ) (a b mark : ℕ) → i < length codes → i < length one → i < length two
-    → a ≡ get_or one i a → b ≡ get_or two i b → mark ≡ (if a == b then 0 else 16)
+pub marks_step : (i : ℕ) (codes one two : List ℕ) (mark : ℕ) → i < length codes → i < length one → i < length two
+    → mark ≡ (if get_or one i 0 == get_or two i 0 then 0 else 16)
     → take i codes ≡ marks_of (take i one) (take i two)
     → take (i + 1) (set codes i mark) ≡ marks_of (take (i + 1) one) (take (i + 1) two)
-marks_step i codes one two a b mark here within behind is_one is_two is_mark before =
-    let first : get_or one i 0 ≡ a = sym (get_or_read one i a within is_one 0) in
-    let second : get_or two i 0 ≡ b = sym (get_or_read two i b behind is_two 0) in
+marks_step i codes one two mark here within behind is_mark before =
     take_more_set codes i mark here
-    ∙ rw (marks_more i one two within behind, first, second, is_mark) (ap (λ front. front ++ (if a == b then 0 else 16) ∷ []) before)
+    ∙ rw (marks_more i one two within behind, is_mark) (ap (λ front. front ++ (if get_or one i 0 == get_or two i 0 then 0 else 16) ∷ []) before)
 
 -- the marks of all columns
 pub marks_whole : (i : ℕ) (codes one two : List ℕ) → length codes ≤ i → length one ≤ i → length two ≤ i
@@ -64,5 +62,8 @@ pub other_count : (one two : CardImage) → are_blank (marks_of one.0 two.0) ≡
 other_count one two other = rw other refl
 
 -- at most one card of two differs
-pub count_few : (one two : CardImage) → differing_of one two ≤ 1
+count_few : (one two : CardImage) → differing_of one two ≤ 1
 count_few one two = elim (are_blank (marks_of one.0 two.0)) as (λ b. (if b then 0 else 1) ≤ 1) [ true ↦ omega arith | false ↦ omega arith ]
+
+pub count_more : (one two : CardImage) (count i more : ℕ) → more ≡ differing_of one two → count ≤ i → count + more ≤ i + 1
+count_more one two count i more is few = omega (arith, is, few, count_few one two)
