@@ -37,9 +37,12 @@ hole_of_bit pattern place below is none =
     let some : not (1 * 2 ^ place == 0) ≡ true = at_each (λ k. not (1 * 2 ^ k == 0)) 12 refl place below in
     grind (arith, some, power)
 
+none_of : (number : ℕ) → 0 * number ≡ 0
+none_of number = omega arith
+
 bit_of_hole : (pattern place : ℕ) → place < 12 → bit_and pattern (row (row_at place)) ≢ 0 → bit_at pattern place ≡ 1
 bit_of_hole pattern place below hole = elim (cases_eq (bit_at pattern place) 0) [
-  | inl none ↦ absurd (hole (bit_shown pattern place below ∙ ap (λ bit. bit * 2 ^ place) none))
+  | inl none ↦ absurd (hole (bit_shown pattern place below ∙ ap (λ bit. bit * 2 ^ place) none ∙ none_of (2 ^ place)))
   | inr some ↦ omega (arith, bit_at-lt pattern place, some)
 ]
 

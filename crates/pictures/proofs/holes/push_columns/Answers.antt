@@ -1,6 +1,7 @@
 use Rattle.std.proofs.Common.{◌+◌, ◌∙◌, ◌++◌, ap, drop, refl}
+use Rattle.std.proofs.lemmas.List.{drop_more}
 use Rattle.pictures.specs.Cards.{holes_from, outlines}
-use Rattle.pictures.proofs.CountedPieces.{all_done, left_from}
+use Rattle.pictures.proofs.CountedPieces.{all_done}
 use Rattle.pictures.proofs.HoleOutlines.{holes_on}
 use Rattle.pictures.proofs.holes.push_columns.Goals as goal
 
@@ -8,10 +9,9 @@ pub loop-index-preserved : goal.loop-index-preserved
 loop-index-preserved c =
     let i = c.loop-index.index in
     let codes = c.args.patterns.now in
-    let code = c.index-patterns-index.result in
-    let left = left_from codes i code c.loop-index-test.true c.index-patterns-index.is in
+    let left = drop_more codes i _ c.loop-index-test.true in
     ap (λ out. out ++ outlines (holes_from (i + 1 + 1) (drop (i + 1) codes))) c.in_ok-push_column.ensures
-    ∙ holes_on (i + 1) code (drop (i + 1) codes) (drop i codes) c.loop-index.out.items left
+    ∙ holes_on (i + 1) _ (drop (i + 1) codes) (drop i codes) c.loop-index.out.items left
     ∙ c.loop-index.invariant
 
 pub returns : goal.returns
