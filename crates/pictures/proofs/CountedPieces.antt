@@ -55,11 +55,6 @@ at_last f start out a k n last before =
     let all : k - a ≡ n = omega arith in
     before ∙ ap (λ count. start ++ flat_map f (range_with_len a count)) all
 
--- what is left of a list begins with the element that is read
-pub left_from : {X : Type 0} (xs : List X) (i : ℕ) (x : X) → i < length xs → x ≡ get_or xs i x
-    → drop i xs ≡ x ∷ drop (i + 1) xs
-left_from xs i x within read = drop_more xs i x within ∙ ap (λ first. first ∷ drop (i + 1) xs) (sym read)
-
 -- where nothing is left all was done
 pub all_done : {X Y : Type 0} (rest_of : List X → List Y) (xs : List X) (i : ℕ) (done whole : List Y) → length xs ≤ i
     → rest_of [] ≡ [] → done ++ rest_of (drop i xs) ≡ whole → done ≡ whole
