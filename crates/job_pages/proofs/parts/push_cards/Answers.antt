@@ -10,4 +10,5 @@ returns-then-is_empty c =
 pub returns : goal.returns
 returns c =
     let some : (length c.args.cards.now == 0) ≡ false = sym c.is_empty.ensures ∙ c.if-is_empty.false in
-    rw some (at_end c.push_card_figures.result c.push_card_figures.ensures (λ last. more c.args.out.now.items _ _ _ _ c.in_ok-extend_from_slice.ensures.items (more _ _ _ _ _ c.in_ok-push_stock_definition.ensures last)))
+    let images = c.deref.ensures.value ∙ c.in_ok-images.ensures in
+    rw (some, ← images) (at_end c.push_card_figures.result c.push_card_figures.ensures (λ last. more c.args.out.now.items _ _ _ _ c.in_ok-extend_from_slice.ensures.items (more _ _ _ _ _ c.in_ok-push_stock_definition.ensures last)))
