@@ -111,7 +111,7 @@ simh_lines (first ∷ deck) each =
     let is = (All-head IsCard first deck each).1 in
     ap (λ (columns : List ℕ). (map sign_shown columns ++ 10 ∷ []) ++ flat_map images.simh_line_of (images_of deck)) (filled_same first.0 is)
     ∙ ap (λ (signs : List ℕ). (signs ++ 10 ∷ []) ++ flat_map images.simh_line_of (images_of deck))
-      (signs_same (filled first.0) (filled_characters IsNumber first.0 is))
+    (signs_same (filled first.0) (filled_characters IsNumber first.0 is))
     ∙ ap (λ (rest : List ℕ). (map simh_sign (filled first.0) ++ 10 ∷ []) ++ rest) (simh_lines deck (All-tail IsCard first deck each))
 
 -- what is written of the images of a deck is what is written of the deck

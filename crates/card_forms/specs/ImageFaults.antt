@@ -105,5 +105,5 @@ pub record IsFirstOdd (images : List CardImage) (fault : ImageFault) : Type 0 wh
   pub fault_is : fault ≡ record {
     error = Punches (digits_of (slice_index image.0 column));
     card = card + 1;
-    column = column + 1
+    column = column + 1;
   }

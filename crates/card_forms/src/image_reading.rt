@@ -67,11 +67,7 @@ fn read_signs(alloc: Global, text: &[u8]) -> Result<Vec<CardImage>, ImageFault>
 }
 
 /// Reads the images of cards from their bytes.
-fn read_cards(
-    alloc: Global,
-    form: ColumnForm,
-    bytes: &[u8],
-) -> Result<Vec<CardImage>, ImageFault>
+fn read_cards(alloc: Global, form: ColumnForm, bytes: &[u8]) -> Result<Vec<CardImage>, ImageFault>
     ensures images { IfOk result (λ images. AreLines form bytes.now images.items) }
     ensures patterns { IfOk result (λ images. All IsImage images.items) }
     ensures only { (images : List CardImage) → AreLines form bytes.now images →
@@ -82,11 +78,7 @@ fn read_cards(
 }
 
 /// The same, card by card.
-fn read_lines(
-    alloc: Global,
-    form: ColumnForm,
-    bytes: &[u8],
-) -> Result<Vec<CardImage>, ImageFault>
+fn read_lines(alloc: Global, form: ColumnForm, bytes: &[u8]) -> Result<Vec<CardImage>, ImageFault>
     ensures images { IfOk result (λ images. AreLines form bytes.now images.items) }
     ensures fault { IfErr result (λ fault. IsFaultIn form bytes.now fault) }
 {

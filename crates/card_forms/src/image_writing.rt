@@ -60,11 +60,7 @@ fn written(alloc: Global, form: Form, images: &[CardImage]) -> Result<Vec<u8>, A
 }
 
 /// Adds the bytes of columns.
-fn push_patterns(
-    file: &mut Vec<u8>,
-    form: ColumnForm,
-    patterns: &[u16],
-) -> Result<(), AllocError>
+fn push_patterns(file: &mut Vec<u8>, form: ColumnForm, patterns: &[u16]) -> Result<(), AllocError>
     ensures { OnOk result (file.new.items
         ≡ file.old.items ++ flat_map (column_of form) patterns.now) }
 {

@@ -113,9 +113,7 @@ pub(crate) fn odd_column(image: &CardImage) -> Option<usize>
     ensures within { IfSome result (λ column. column < 80) }
 {
     let columns: &[u16] = &image.0;
-    columns
-        .iter()
-        .position(|pattern| !is_character(*pattern))
+    columns.iter().position(|pattern| !is_character(*pattern))
 }
 
 /// The place of the first card with a column that is no character.

@@ -23,7 +23,11 @@ pub struct Comparison {
 /// Compares two decks card by card, and prints of each card that differs its number, both cards,
 /// and `^` under the columns in which they differ; then the cards that only one deck has, and in
 /// the last line how many cards there are and how many differ. Fails only if there is no memory.
-pub fn compare(alloc: Global, first: &[CardImage], second: &[CardImage]) -> Result<Comparison, AllocError>
+pub fn compare(
+    alloc: Global,
+    first: &[CardImage],
+    second: &[CardImage],
+) -> Result<Comparison, AllocError>
     ensures text { IfOk result (λ found. found.text.items ≡ compared first.now second.now) }
     ensures differing { IfOk result (λ found. found.differing ≡ differing first.now second.now) }
 {
@@ -105,7 +109,11 @@ fn push_shown(
 }
 
 /// Adds what is shown of the cards that both decks have, and returns how many of them differ.
-fn push_both(text: &mut Vec<u8>, first: &[CardImage], second: &[CardImage]) -> Result<usize, AllocError>
+fn push_both(
+    text: &mut Vec<u8>,
+    first: &[CardImage],
+    second: &[CardImage],
+) -> Result<usize, AllocError>
     ensures shown { OnOk result (text.new.items
         ≡ text.old.items ++ shown_from 1 first.now second.now) }
     ensures differing { IfOk result (λ count. count ≡ differing_among first.now second.now) }

@@ -61,11 +61,7 @@ pub(crate) fn push_barred(out: &mut Vec<u8>, image: &CardImage) -> Result<(), Al
 
 /// Adds the number of a card at the right of four places, and the card up to the last column that is
 /// not blank, between bars. A column that is no character is shown as `~`.
-pub fn push_numbered(
-    out: &mut Vec<u8>,
-    number: usize,
-    image: &CardImage,
-) -> Result<(), AllocError>
+pub fn push_numbered(out: &mut Vec<u8>, number: usize, image: &CardImage) -> Result<(), AllocError>
     ensures { OnOk result (out.new.items ≡ out.old.items ++ numbered_card number image.now) }
 {
     push_in_four(out, number)?;

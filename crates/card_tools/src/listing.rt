@@ -43,7 +43,11 @@ const ROWS: [(u8, u16); 12] = [
 /// The rows of a card are twelve lines under it: the row's name at the right of four places, a bar,
 /// an asterisk under each column with a hole there, as far as the card's line goes, and a bar.
 /// Fails only if there is no memory.
-pub fn list(alloc: Global, images: &[CardImage], options: ListOptions) -> Result<Vec<u8>, AllocError>
+pub fn list(
+    alloc: Global,
+    images: &[CardImage],
+    options: ListOptions,
+) -> Result<Vec<u8>, AllocError>
     ensures { IfOk result (λ text. text.items ≡ listing options images.now) }
 {
     list_from(alloc, 1, images, options)
@@ -131,9 +135,5 @@ fn push_row(out: &mut Vec<u8>, row: &(u8, u16), image: &CardImage) -> Result<(),
 fn mark(bit: u16, pattern: u16) -> u8
     ensures { result ≡ mark_of bit pattern }
 {
-    if pattern & bit == 0 {
-        b' '
-    } else {
-        b'*'
-    }
+    if pattern & bit == 0 { b' ' } else { b'*' }
 }

@@ -58,11 +58,7 @@ pub(crate) fn push_listing(out: &mut Vec<u8>, listing: &[u8]) -> Result<(), Allo
 }
 
 /// Adds the punched cards.
-pub(crate) fn push_cards(
-    alloc: Global,
-    out: &mut Vec<u8>,
-    cards: &[Card],
-) -> Result<(), AllocError>
+pub(crate) fn push_cards(alloc: Global, out: &mut Vec<u8>, cards: &[Card]) -> Result<(), AllocError>
     ensures { OnOk result (out.new.items ≡ out.old.items ++ cards_shown cards.now) }
 {
     out.extend_from_slice(b"<h2>Punched cards</h2>\n")?;

@@ -38,10 +38,7 @@ pub(crate) fn tell_text_fault<E: Write>(errors: &mut E, fault: TextFault) -> io:
     let line = fault.line;
     let column = fault.column;
     if let TextError::TooManyCards = fault.error {
-        return writeln!(
-            errors,
-            "line {line}: {TOO_MANY_CARDS} of a deck text"
-        );
+        return writeln!(errors, "line {line}: {TOO_MANY_CARDS} of a deck text");
     }
     write!(errors, "line {line} column {column}: ")?;
     match fault.error {
