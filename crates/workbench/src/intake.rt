@@ -260,12 +260,12 @@ fn path_in(alloc: Global, folder: &str, out: &str, path: &str) -> io::Result<Str
 }
 
 /// Takes the files of a folder as decks.
-fn take_files<W: Write, E: Write>(
+fn take_files<'a, W: Write, E: Write>(
     process: &mut Process<W, E>,
     tally: &mut Tally,
     wish: &Intake<'_>,
-    paths: &[String],
-    known: &[&[u8]],
+    paths: &'a [String],
+    known: &'a [&'a [u8]],
 ) -> Result<(), Undone> {
     let mut rules = copy_of(process.alloc(), &wish.rules)?;
     let folder = without_strokes(wish.folder);
@@ -277,7 +277,7 @@ fn take_files<W: Write, E: Write>(
         let place = Destination {
             path,
             target,
-            known,
+            known: &*known,
         };
         take_file(process, tally, &mut rules, wish.named, place)?;
     }
