@@ -1,6 +1,6 @@
 //! Reading a record: what it tells of a job beside its deck.
 
-ghost use Rattle.std.specs.Prelude.{◌≡◌, ◌≢◌, ◌<◌, ◌^◌, ◌++◌, ◌∷◌, ◌==◌, ℕ, List, Bool, IfSome, IsAscii, IsNone, Some, codes, decimal, position, true};
+ghost use Rattle.std.specs.Prelude.{◌≡◌, ◌≢◌, ◌<◌, ◌≤◌, ◌^◌, ◌++◌, ◌∷◌, ◌==◌, ℕ, List, Bool, IfSome, IsAscii, IsNone, Some, codes, decimal, position, true};
 ghost use Rattle.core_store.specs.{Storage.{positions_of}, declared.sizes.Size.{Size as AnySize}};
 ghost use Rattle.office.specs.declared.{commands.Kind.{Kind as AnyKind}, stretches.Stretch.{Stretch as AnyStretch}};
 ghost use Rattle.texts.specs.{Names.{is_customer, is_number}, Switches.{text_of}};
@@ -103,7 +103,10 @@ fn text_of(value: &[u8]) -> Option<&str>
     ensures found { IfSome result (λ text. text.now ≡ value.now) }
     ensures each { IsAscii value.now → IsNone result → ⊥ }
 {
-    str::from_utf8(value).ok()
+    match str::from_utf8(value) {
+        Ok(text) => Some(text),
+        Err(_error) => None,
+    }
 }
 
 /// The customer of this name, if it is one.
@@ -124,10 +127,7 @@ fn job_number(value: &[u8]) -> Option<u32>
     ensures each { (number : ℕ) → is_number number ≡ true → value.now ≡ decimal number
         → result ≡ Some number }
 {
-    let Some(text) = text_of(value) else {
-        return None;
-    };
-    let Some(number) = number_of(text) else {
+    let Some(number) = number_in(value) else {
         return None;
     };
     if is_number(number) { Some(number) } else { None }
@@ -166,6 +166,17 @@ fn flag_of(word: &[u8]) -> Option<bool>
     }
 }
 
+/// The number from 1 up to 999,999,999 that is spelled in plain decimal.
+fn number_in(value: &[u8]) -> Option<u32>
+    ensures { (number : ℕ) → 0 < number → number < 10 ^ 9 → value.now ≡ decimal number
+        → result ≡ Some number }
+{
+    let Some(text) = text_of(value) else {
+        return None;
+    };
+    number_of(text)
+}
+
 /// The size that is spelled so.
 fn size_in(value: &[u8]) -> Option<Size>
     ensures { (size : AnySize) → value.now ≡ decimal (positions_of size) → result ≡ Some size }
@@ -176,15 +187,13 @@ fn size_in(value: &[u8]) -> Option<Size>
     size_of(text)
 }
 
-/// The number that is spelled in plain decimal.
-fn plain_number(value: &[u8]) -> Option<u32>
-    ensures { (number : ℕ) → number < 2 ^ 32 → value.now ≡ decimal number → result ≡ Some number }
+/// The number up to 1,000,000,000 that is spelled in plain decimal.
+fn granted_of(value: &[u8]) -> Option<u32>
+    ensures { (number : ℕ) → number ≤ 10 ^ 9 → value.now ≡ decimal number → result ≡ Some number }
 {
-    let Some(text) = text_of(value) else {
-        return None;
-    };
-    let Ok(number) = text.parse::<u32>() else {
-        return None;
-    };
-    Some(number)
+    match value {
+        b"0" => Some(0),
+        b"1000000000" => Some(1_000_000_000),
+        _ => number_in(value),
+    }
 }
