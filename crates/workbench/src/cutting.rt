@@ -4,7 +4,7 @@ ghost use Rattle.std.specs.Prelude.{◌≡◌, length, IfOk, IfSome};
 ghost use Rattle.card_forms.specs.ImageFiles.{image_file_of};
 ghost use Rattle.card_tools.specs.Cutting.{HasPart, part_of};
 
-use crate::decks::{Named, read_images_as, tell_form_fault};
+use crate::decks::read_images_as;
 use crate::process::Process;
 use crate::undone::Undone;
 use card_forms::{CardImage, Form, ImageFault, form_told, write_images};
@@ -12,26 +12,7 @@ use card_tools::{NumberPlace, cut, number_place};
 use command_line::Status;
 use std::alloc::Global;
 use std::io::Write;
-
-/// What is cut out of a deck, and where it goes.
-#[derive(Clone, Copy)]
-pub(crate) struct Cutting<'a> {
-    /// The path of the deck.
-    pub deck: &'a str,
-    /// The path of the part.
-    pub out: &'a str,
-    /// How the first and the last card are named.
-    pub ends: Ends<'a>,
-}
-
-/// How the first and the last card of a part are named.
-#[derive(Clone, Copy)]
-pub(crate) enum Ends<'a> {
-    /// By their places, the first one being 1.
-    Places(usize, usize),
-    /// By what stands in columns 73 to 80.
-    Numbers(&'a str, &'a str),
-}
+use workbench_arguments::{Cutting, Ends};
 
 /// The file of the cards from one place to another, if there are such cards.
 fn file_of_part(
@@ -83,7 +64,7 @@ fn places<W: Write, E: Write>(
     ends: Ends<'_>,
 ) -> Result<(usize, usize), Undone> {
     match ends {
-        Ends::Places(first, last) => Ok((first, last)),
+        Ends::Places(first, last) => Ok((first as usize, last as usize)),
         Ends::Numbers(first, last) => {
             let first = place_with(process, path, images, first)?;
             let last = place_with(process, path, images, last)?;
@@ -120,18 +101,14 @@ pub(crate) fn cut_deck<W: Write, E: Write>(
 ) -> Result<Status, Undone> {
     let path = cutting.deck;
     let bytes = process.read(path)?;
-    let file = Named {
-        path,
-        bytes: &bytes,
-    };
     let images = match read_images_as(process.alloc(), None, &bytes) {
         Ok(images) => images,
-        Err(fault) => return Err(tell_form_fault(&mut process.errors, file, None, fault)?),
+        Err(fault) => return Err(process.tell_form(path, &bytes, fault)?),
     };
     let (first, last) = places(process, path, &images, cutting.ends)?;
     match file_of_part(process.alloc(), form_told(&bytes), &images, first, last) {
         Ok(Some(part)) => process.write(cutting.out, &part),
         Ok(None) => tell_no_part(process, path, (first, last), images.len()),
-        Err(fault) => Err(tell_form_fault(&mut process.errors, file, None, fault)?),
+        Err(fault) => Err(process.tell_form(path, &bytes, fault)?),
     }
 }

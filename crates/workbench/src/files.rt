@@ -29,6 +29,15 @@ pub(crate) fn bytes_at(rt: &HostRuntime, path: &str) -> io::Result<Option<Vec<u8
     Ok(whole(read_up_to(rt.alloc(), file, MOST_BYTES + 1)?))
 }
 
+/// What was to be done with a file.
+#[derive(Clone, Copy)]
+pub(crate) enum Access {
+    /// It was to be read.
+    Read,
+    /// It was to be written.
+    Write,
+}
+
 /// What is said of a file that is not read, by the kind of the error; none where the error says it.
 fn words_of_reading(kind: ErrorKind) -> Option<&'static str> {
     match kind {
@@ -56,26 +65,33 @@ fn words_of_writing(kind: ErrorKind) -> Option<&'static str> {
     }
 }
 
-/// Says why a file is not read.
-pub(crate) fn tell_unread<E: Write>(
-    errors: &mut E,
-    path: &str,
-    error: &io::Error,
-) -> io::Result<()> {
-    match words_of_reading(error.kind()) {
-        Some(words) => writeln!(errors, "{path}: {words}"),
-        None => writeln!(errors, "{path}: it cannot be read: {error}"),
+impl Access {
+    /// What is said of a file by the kind of the error; none where the error says it.
+    fn words(self, kind: ErrorKind) -> Option<&'static str> {
+        match self {
+            Access::Read => words_of_reading(kind),
+            Access::Write => words_of_writing(kind),
+        }
+    }
+
+    /// What is said of a file where the error says why.
+    fn undone(self) -> &'static str {
+        match self {
+            Access::Read => "it cannot be read",
+            Access::Write => "it cannot be written",
+        }
     }
 }
 
-/// Says why a file is not written.
-pub(crate) fn tell_unwritten<E: Write>(
+/// Says why a file is not read or not written.
+pub(crate) fn tell_failed<E: Write>(
     errors: &mut E,
     path: &str,
+    access: Access,
     error: &io::Error,
 ) -> io::Result<()> {
-    match words_of_writing(error.kind()) {
+    match access.words(error.kind()) {
         Some(words) => writeln!(errors, "{path}: {words}"),
-        None => writeln!(errors, "{path}: it cannot be written: {error}"),
+        None => writeln!(errors, "{path}: {}: {error}", access.undone()),
     }
 }

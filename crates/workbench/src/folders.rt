@@ -1,6 +1,6 @@
 //! The files that paths name, where a path may be that of a folder.
 
-use crate::files::tell_unread;
+use crate::files::{Access, tell_failed};
 use crate::process::Process;
 use std::alloc::AllocError;
 use std::fs::DirEntry;
@@ -95,7 +95,7 @@ fn take_folder<W: Write, E: Write>(
         Ok(entries) => entries,
         Err(error) => {
             found.whole = false;
-            return tell_unread(&mut process.errors, path, &error);
+            return tell_failed(&mut process.errors, path, Access::Read, &error);
         }
     };
     for entry in entries {

@@ -1,6 +1,6 @@
 //! The subcommand `intake`.
 
-use crate::files::{TOO_LONG, bytes_at, tell_unread, tell_unwritten};
+use crate::files::{Access, TOO_LONG, bytes_at, tell_failed};
 use crate::folders::files_of;
 use crate::manifests::{hindrance_of, lines_of};
 use crate::process::{Process, status_if};
@@ -157,7 +157,7 @@ impl Tally {
     ) -> io::Result<Stands> {
         let Destination { path, target, .. } = place;
         let name = format!(in alloc; "{path}: refused: {target}")?;
-        tell_unwritten(&mut self.refused, &name, error)?;
+        tell_failed(&mut self.refused, &name, Access::Write, error)?;
         self.refusals = self.refusals.saturating_add(1);
         Ok(Stands::Not)
     }
@@ -165,7 +165,7 @@ impl Tally {
     /// Adds the line of a file that is not read.
     fn push_unread(&mut self, alloc: Global, path: &str, error: &io::Error) -> io::Result<()> {
         let name = format!(in alloc; "{path}: refused")?;
-        tell_unread(&mut self.refused, &name, error)?;
+        tell_failed(&mut self.refused, &name, Access::Read, error)?;
         self.refusals = self.refusals.saturating_add(1);
         Ok(())
     }
@@ -318,7 +318,7 @@ fn look_at_folders<W: Write, E: Write>(
         Ok(found) if found.is_dir() && folder != "-" => {}
         Ok(_) => return Err(process.refuse(folder, "it is no folder")?),
         Err(error) => {
-            tell_unread(&mut process.errors, folder, &error)?;
+            tell_failed(&mut process.errors, folder, Access::Read, &error)?;
             return Err(Undone::Told(Status::NotDone));
         }
     }

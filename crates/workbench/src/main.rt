@@ -30,7 +30,7 @@ mod undone;
 
 use crate::benching::{dump_deck, profile_deck, trace_deck};
 use crate::converting::convert;
-use crate::cutting::{Cutting, Ends, cut_deck};
+use crate::cutting::cut_deck;
 use crate::drawing::{draw_card, draw_deck, draw_pages};
 use crate::filing::write_page;
 use crate::intake::take_in;
@@ -79,26 +79,7 @@ fn work<W: Write, E: Write>(
             reads,
             writes,
         } => convert(process, (deck, *reads), (out, *writes)),
-        Task::Cut {
-            deck,
-            out,
-            first,
-            last,
-        } => {
-            let (deck, out) = (*deck, *out);
-            let ends = Ends::Places(*first as usize, *last as usize);
-            cut_deck(process, Cutting { deck, out, ends })
-        }
-        Task::CutNumbers {
-            deck,
-            out,
-            first,
-            last,
-        } => {
-            let (deck, out) = (*deck, *out);
-            let ends = Ends::Numbers(*first, *last);
-            cut_deck(process, Cutting { deck, out, ends })
-        }
+        Task::Cut(cutting) => cut_deck(process, *cutting),
         Task::Source {
             source,
             narrow,

@@ -3,9 +3,9 @@
 ghost use Rattle.std.specs.Prelude.{◌<◌, length, IfOk};
 
 use crate::decks::{Named, fault_of_deck, read_as, read_images_as, tell_form_fault};
-use crate::files::{TOO_LONG, bytes_at, tell_unread, tell_unwritten};
+use crate::files::{Access, TOO_LONG, bytes_at, tell_failed};
 use crate::undone::Undone;
-use card_forms::CardImage;
+use card_forms::{CardImage, ImageFault};
 use cards::Deck;
 use command_line::{Status, put_out};
 use local_runs::replace_file;
@@ -72,7 +72,7 @@ impl<W: Write, E: Write> Process<W, E> {
         if error.kind() == ErrorKind::OutOfMemory {
             return Err(Undone::Memory);
         }
-        tell_unwritten(&mut self.errors, path, &error)?;
+        tell_failed(&mut self.errors, path, Access::Write, &error)?;
         Err(Undone::Told(Status::NotDone))
     }
 
@@ -82,10 +82,20 @@ impl<W: Write, E: Write> Process<W, E> {
             Ok(Some(bytes)) => Ok(bytes),
             Ok(None) => Err(self.refuse(path, TOO_LONG)?),
             Err(error) => {
-                tell_unread(&mut self.errors, path, &error)?;
+                tell_failed(&mut self.errors, path, Access::Read, &error)?;
                 Err(Undone::Told(Status::NotDone))
             }
         }
+    }
+
+    /// Says what is wrong with the bytes of a file of which nobody named the form.
+    pub(crate) fn tell_form(
+        &mut self,
+        path: &str,
+        bytes: &[u8],
+        fault: ImageFault,
+    ) -> io::Result<Undone> {
+        tell_form_fault(&mut self.errors, Named { path, bytes }, None, fault)
     }
 
     /// The deck in the file at a path: a text or a punch file.
@@ -93,13 +103,7 @@ impl<W: Write, E: Write> Process<W, E> {
         let bytes = self.read(path)?;
         match read_as(self.alloc(), None, &bytes) {
             Ok(deck) => Ok(deck),
-            Err(fault) => {
-                let file = Named {
-                    path,
-                    bytes: &bytes,
-                };
-                Err(tell_form_fault(&mut self.errors, file, None, fault_of_deck(fault))?)
-            }
+            Err(fault) => Err(self.tell_form(path, &bytes, fault_of_deck(fault))?),
         }
     }
 
@@ -108,13 +112,7 @@ impl<W: Write, E: Write> Process<W, E> {
         let bytes = self.read(path)?;
         match read_images_as(self.alloc(), None, &bytes) {
             Ok(images) => Ok(images),
-            Err(fault) => {
-                let file = Named {
-                    path,
-                    bytes: &bytes,
-                };
-                Err(tell_form_fault(&mut self.errors, file, None, fault)?)
-            }
+            Err(fault) => Err(self.tell_form(path, &bytes, fault)?),
         }
     }
 

@@ -1,5 +1,8 @@
 //! Why a subcommand is not done.
 
+ghost use Rattle.std.specs.Prelude.{◌≡◌};
+ghost use Rattle.workbench.specs.declared.undone.Undone.TheVariants.{Memory};
+
 use command_line::Status;
 use std::alloc::AllocError;
 use std::io;
@@ -14,9 +17,6 @@ pub(crate) enum Undone {
 }
 
 impl From<AllocError> for Undone {
-    ghost use Rattle.std.specs.Prelude.{◌≡◌};
-    ghost use Rattle.workbench.specs.declared.undone.Undone.TheVariants.{Memory};
-
     ghost from_gives = { λ _ undone. undone ≡ Memory };
 
     fn from(_error: AllocError) -> Undone {
@@ -26,9 +26,6 @@ impl From<AllocError> for Undone {
 
 /// Nothing but want of memory is an error of a subcommand, since the second output has none.
 impl From<io::Error> for Undone {
-    ghost use Rattle.std.specs.Prelude.{◌≡◌};
-    ghost use Rattle.workbench.specs.declared.undone.Undone.TheVariants.{Memory};
-
     ghost from_gives = { λ _ undone. undone ≡ Memory };
 
     fn from(_error: io::Error) -> Undone {

@@ -18,9 +18,11 @@ use Rattle.workbench_arguments.specs.Subcommands.{workbench}
 use Rattle.workbench_arguments.specs.Values.{AreStops, IsColumn, IsCount, IsNumeral, word_of_empty, word_of_signs, word_of_width}
 use Rattle.workbench_arguments.specs.declared.subcommands.Subcommand.{Subcommand}
 use Rattle.workbench_arguments.specs.declared.subcommands.Subcommand.TheVariants as name
+use Rattle.workbench_arguments.specs.declared.tasks.Ends.{Ends}
+use Rattle.workbench_arguments.specs.declared.tasks.Ends.TheVariants.{Places, Numbers}
 use Rattle.workbench_arguments.specs.declared.tasks.Setup.{Setup}
 use Rattle.workbench_arguments.specs.declared.tasks.Task.{Task}
-use Rattle.workbench_arguments.specs.declared.tasks.Task.TheVariants.{Show, Punch, List as ListCards, Compare, Convert, Cut, CutNumbers, Number, CheckNumbers, Source, Manifest, Trace, Dump, Profile, Console, Card, Deck, Pages, Page, Intake}
+use Rattle.workbench_arguments.specs.declared.tasks.Task.TheVariants.{Show, Punch, List as ListCards, Compare, Convert, Cut, Number, CheckNumbers, Source, Manifest, Trace, Dump, Profile, Console, Card, Deck, Pages, Page, Intake}
 
 -- these are the columns of `--tabs`, or none where it is not given
 abbrev pub HasTabs : List Row → List ℕ → Type 0
@@ -101,15 +103,18 @@ WantsConvert found (Convert deck out reads writes) = HasArgument (codes "IN") fo
     × HasArgument (codes "TO") found (word_of writes)
 WantsConvert found other = ⊥
 
--- the task of `cut`: by the places of the first and the last card, or by `--numbers` by what stands
--- on them
-abbrev pub WantsCut : List Row → Task → Type 0
-WantsCut found (Cut deck out first last) = HasArgument (codes "IN") found deck.now
-    × HasArgument (codes "OUT") found out.now × WantsNumber (codes "FIRST") found first
+-- these are the first and the last card of a part: their places, or by `--numbers` what stands on
+-- them
+abbrev pub HasEnds : List Row → Ends → Type 0
+HasEnds found (Places first last) = WantsNumber (codes "FIRST") found first
     × WantsNumber (codes "LAST") found last × (has_flag (codes "numbers") found ≡ false)
-WantsCut found (CutNumbers deck out first last) = HasArgument (codes "IN") found deck.now
-    × HasArgument (codes "OUT") found out.now × HasArgument (codes "FIRST") found first.now
+HasEnds found (Numbers first last) = HasArgument (codes "FIRST") found first.now
     × HasArgument (codes "LAST") found last.now × (has_flag (codes "numbers") found ≡ true)
+
+-- the task of `cut`
+abbrev pub WantsCut : List Row → Task → Type 0
+WantsCut found (Cut it) = HasArgument (codes "IN") found it.deck.now
+    × HasArgument (codes "OUT") found it.out.now × HasEnds found it.ends
 WantsCut found other = ⊥
 
 -- this is whether `--width` asks for 80 columns; without it the listing has 120 and more

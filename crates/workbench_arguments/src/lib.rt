@@ -17,4 +17,6 @@ mod values;
 
 pub use help::VERSION;
 pub use subcommands::{Subcommand, WORKBENCH};
-pub use tasks::{Dumping, Intake, Numbering, Punching, Setup, Task, Tracing, task_of};
+pub use tasks::{
+    Cutting, Dumping, Ends, Intake, Numbering, Punching, Setup, Task, Tracing, task_of,
+};

@@ -9,7 +9,7 @@ ghost use Rattle.command_line.specs.{
 ghost use Rattle.workbench_arguments.specs.Subcommands.{workbench};
 ghost use Rattle.card_forms.specs.Forms.{word_of};
 ghost use Rattle.workbench_arguments.specs.{
-  Tasks.{AreRulesOf, HasEmpty, HasForm, HasKept, HasSigns, HasTabs, IsNarrow, NamesSigns, Wants, WantsCompare, WantsConvert, WantsCut, WantsIntake, WantsList, WantsManifest, WantsPunch, WantsSequence, WantsSource, WantsTask},
+  Tasks.{AreRulesOf, HasEmpty, HasEnds, HasForm, HasKept, HasSigns, HasTabs, IsNarrow, NamesSigns, Wants, WantsCompare, WantsConvert, WantsCut, WantsIntake, WantsList, WantsManifest, WantsPunch, WantsSequence, WantsSource, WantsTask},
   Values.{IsNumeral},
 };
 
@@ -80,6 +80,26 @@ pub struct Numbering<'a> {
     pub first: u32,
     /// What each next number is more.
     pub step: u32,
+}
+
+/// How the first and the last card of a part are named.
+#[derive(Clone, Copy)]
+pub enum Ends<'a> {
+    /// By their places, the first one of the deck being 1.
+    Places(u32, u32),
+    /// By what stands in columns 73 to 80.
+    Numbers(&'a str, &'a str),
+}
+
+/// What is cut out of a deck, and where it goes.
+#[derive(Clone, Copy)]
+pub struct Cutting<'a> {
+    /// The path of the deck.
+    pub deck: &'a str,
+    /// The path of the part.
+    pub out: &'a str,
+    /// The first and the last card of the part.
+    pub ends: Ends<'a>,
 }
 
 /// Which instructions of a run are printed, and how.
@@ -155,28 +175,8 @@ pub enum Task<'a> {
         /// The form that is written.
         writes: Form,
     },
-    /// Make a deck of some cards of another, by their places.
-    Cut {
-        /// The path of the deck.
-        deck: &'a str,
-        /// The path of the part.
-        out: &'a str,
-        /// The place of the first card of the part, from 1.
-        first: u32,
-        /// The place of its last card.
-        last: u32,
-    },
-    /// The same, by what stands in columns 73 to 80.
-    CutNumbers {
-        /// The path of the deck.
-        deck: &'a str,
-        /// The path of the part.
-        out: &'a str,
-        /// What stands on the first card of the part.
-        first: &'a str,
-        /// What stands on its last card.
-        last: &'a str,
-    },
+    /// Make a deck of some cards of another.
+    Cut(Cutting<'a>),
     /// Print a source with its code, or its faults.
     Source {
         /// The path of the source.
@@ -413,28 +413,29 @@ fn convert_task<'a>(found: &Found<'a>) -> Result<Task<'a>, Mistake<'static>>
     })
 }
 
+/// The first and the last card of a part: their places, or by `--numbers` what stands on them.
+fn ends_in<'a>(found: &Found<'a>) -> Result<Ends<'a>, Mistake<'static>>
+    ensures { IfOk result (HasEnds (given found.now)) }
+{
+    let first = found.needed("FIRST")?;
+    let last = found.needed("LAST")?;
+    if found.has_flag("numbers") {
+        return Ok(Ends::Numbers(first, last));
+    }
+    let first = number(first, NO_FIRST_NUMBER)?;
+    let last = number(last, NO_LAST_NUMBER)?;
+    Ok(Ends::Places(first, last))
+}
+
 /// The task of a subcommand `cut`.
 fn cut_task<'a>(found: &Found<'a>) -> Result<Task<'a>, Mistake<'static>>
     ensures { IfOk result (WantsCut (given found.now)) }
 {
-    let deck = found.needed("IN")?;
-    let out = found.needed("OUT")?;
-    let first = found.needed("FIRST")?;
-    let last = found.needed("LAST")?;
-    if found.has_flag("numbers") {
-        return Ok(Task::CutNumbers {
-            deck,
-            out,
-            first,
-            last,
-        });
-    }
-    Ok(Task::Cut {
-        deck,
-        out,
-        first: number(first, NO_FIRST_NUMBER)?,
-        last: number(last, NO_LAST_NUMBER)?,
-    })
+    Ok(Task::Cut(Cutting {
+        deck: found.needed("IN")?,
+        out: found.needed("OUT")?,
+        ends: ends_in(found)?,
+    }))
 }
 
 /// Whether `--width` asks for 80 columns; not where it is not given.
