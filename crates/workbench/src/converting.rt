@@ -1,10 +1,11 @@
 //! The subcommand `convert`.
 
-ghost use Rattle.std.specs.Prelude.{◌≡◌, true, List, IfOk};
+ghost use Rattle.std.specs.Prelude.{◌≡◌, true, List, IfErr, IfOk};
 ghost use Rattle.card_forms.specs.{
   ImageFiles.{IsImageFile, has_file, image_file_of},
   declared.images.CardImage.{CardImage},
 };
+ghost use Rattle.workbench.specs.Decks.{IsUnconverted};
 
 use crate::decks::{Named, fault_of_deck, tell_form_fault};
 use crate::process::Process;
@@ -16,8 +17,10 @@ use std::io::Write;
 
 /// The file of the same cards in another form.
 fn converted(alloc: Global, reads: Form, bytes: &[u8], writes: Form) -> Result<Vec<u8>, ImageFault>
-    ensures { IfOk result (λ file. (images : List CardImage) × IsImageFile reads bytes.now images
-        × (has_file writes images ≡ true) × (file.items ≡ image_file_of writes images)) }
+    ensures file { IfOk result (λ file. (images : List CardImage)
+        × IsImageFile reads bytes.now images × (has_file writes images ≡ true)
+        × (file.items ≡ image_file_of writes images)) }
+    ensures fault { IfErr result (IsUnconverted reads bytes.now writes) }
 {
     let images = read_images(alloc, reads, bytes)?;
     write_images(alloc, writes, &images)

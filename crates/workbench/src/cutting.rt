@@ -1,8 +1,9 @@
 //! The subcommand `cut`.
 
-ghost use Rattle.std.specs.Prelude.{◌≡◌, length, IfOk, IfSome};
-ghost use Rattle.card_forms.specs.ImageFiles.{image_file_of};
+ghost use Rattle.std.specs.Prelude.{◌≡◌, true, length, IfErr, IfOk, IfSome, IsNone};
+ghost use Rattle.card_forms.specs.ImageFiles.{has_file, image_file_of};
 ghost use Rattle.card_tools.specs.Cutting.{HasPart, part_of};
+ghost use Rattle.workbench.specs.Decks.{IsUnwritten};
 
 use crate::decks::read_images_as;
 use crate::process::Process;
@@ -22,8 +23,14 @@ fn file_of_part(
     first: usize,
     last: usize,
 ) -> Result<Option<Vec<u8>>, ImageFault>
-    ensures { IfOk result (λ found. IfSome found (λ file. HasPart first last (length images.now)
+    ensures part { IfOk result (λ found. IfSome found (λ file.
+        HasPart first last (length images.now)
+        × (has_file form (part_of first last images.now) ≡ true)
         × (file.items ≡ image_file_of form (part_of first last images.now)))) }
+    ensures none { IfOk result (λ found. IsNone found →
+        HasPart first last (length images.now) → ⊥) }
+    ensures fault { IfErr result (λ fault. HasPart first last (length images.now)
+        × IsUnwritten form (part_of first last images.now) fault) }
 {
     let Some(part) = cut(images, first, last) else {
         return Ok(None);

@@ -1,8 +1,12 @@
 //! The decks that subcommands read.
 
-ghost use Rattle.std.specs.Prelude.{◌≡◌, Option, IfOk};
+ghost use Rattle.std.specs.Prelude.{◌≡◌, Option, IfErr, IfOk};
 ghost use Rattle.cards.specs.Decks.{IsDeck};
-ghost use Rattle.card_forms.specs.{Forms.{IsFileOf}, ImageFiles.{IsImageFile}};
+ghost use Rattle.card_forms.specs.{
+  Forms.{IsFileOf},
+  ImageFaults.{IsImageFault},
+  ImageFiles.{IsImageFile},
+};
 ghost use Rattle.workbench.specs.Decks.{form_of};
 
 use crate::characters::{tell_character, tell_remedy};
@@ -267,15 +271,16 @@ pub(crate) fn read_as(alloc: Global, form: Option<Form>, bytes: &[u8]) -> Result
     }
 }
 
-/// Reads cards of any number and any patterns from a file in a form, or in that which its first line
-/// tells.
+/// Reads cards of any number and any patterns from a file in a form, or in that which its first
+/// line tells.
 pub(crate) fn read_images_as(
     alloc: Global,
     form: Option<Form>,
     bytes: &[u8],
 ) -> Result<Vec<CardImage>, ImageFault>
-    ensures { IfOk result (λ images.
+    ensures images { IfOk result (λ images.
         IsImageFile (form_of form bytes.now) bytes.now images.items) }
+    ensures fault { IfErr result (IsImageFault (form_of form bytes.now) bytes.now) }
 {
     read_images(alloc, form_of(form, bytes), bytes)
 }

@@ -5,8 +5,8 @@ use std::io;
 use std::io::{ErrorKind, Write};
 use texts::read_up_to;
 
-/// How many bytes of a file are read at most: those of 132,780 cards in a punch file, and of more in
-/// the other forms.
+/// How many bytes of a file are read at most: those of 132,780 cards in a punch file, and of more
+/// in the other forms.
 const MOST_BYTES: u64 = 32_000_000;
 
 /// What is said of a file that has more.

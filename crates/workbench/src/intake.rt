@@ -118,8 +118,8 @@ fn put(rt: &HostRuntime, target: &str, text: &[u8]) -> io::Result<()> {
     replace_file(rt, target, text)
 }
 
-/// Adds the line of a deck to the new ones of the manifest, unless the manifest has it. A deck's own
-/// text is read, if there is memory.
+/// Adds the line of a deck to the new ones of the manifest, unless the manifest has it. A deck's
+/// own text is read, if there is memory.
 fn push_digest(
     alloc: Global,
     tally: &mut Tally,

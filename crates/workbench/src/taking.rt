@@ -1,8 +1,11 @@
 //! A file taken as a deck, and what is said of it.
 
-ghost use Rattle.std.specs.Prelude.{◌≡◌, IfOk, IfSome};
-ghost use Rattle.card_texts.specs.Taking.{IsTaken};
-ghost use Rattle.workbench.specs.Intake.{IsCopy};
+ghost use Rattle.std.specs.Prelude.{◌≡◌, ◌≢◌, IfOk, IfSome, IsNone, OnOk};
+ghost use Rattle.card_texts.specs.{
+  Taking.{IsTaken},
+  declared.Untaken.TheVariants.{NoMemory},
+};
+ghost use Rattle.workbench.specs.Intake.{IsCopy, IsRefused};
 
 use crate::punching::{
     count_blank, count_empty, count_folded, is_of_punch_file, numbers_told, rises, tabs_of,
@@ -73,8 +76,10 @@ fn tell_one_fault(told: &mut Vec<u8>, faults: &[TextFault]) -> Result<(), Undone
     }
 }
 
-/// Says why a file is not taken.
-fn tell_untaken(told: &mut Vec<u8>, untaken: &Untaken) -> Result<(), Undone> {
+/// Says why a file is not taken. Want of memory is not told here.
+fn tell_untaken(told: &mut Vec<u8>, untaken: &Untaken) -> Result<(), Undone>
+    ensures { OnOk result (untaken.now ≢ NoMemory) }
+{
     match untaken {
         Untaken::NoMemory => Err(Undone::Memory),
         Untaken::Differ(one, other) => Ok(tell_two_decks(told, *one, *other)?),
@@ -93,6 +98,7 @@ pub(crate) fn taken(
 ) -> Result<Option<Reading>, Undone>
     ensures rules { rules.new ≡ rules.old }
     ensures taken { IfOk result (λ found. IfSome found (IsTaken rules.old named bytes.now)) }
+    ensures none { IfOk result (λ found. IsNone found → IsRefused rules.old named bytes.now) }
 {
     match take(alloc, rules, named, bytes) {
         Ok(reading) => Ok(Some(reading)),
