@@ -175,6 +175,15 @@ class Certificates:
                               stdout=subprocess.PIPE, stderr=subprocess.PIPE, text=True)
         return made.stderr or made.stdout
 
+    def sign(self, name, certificate, key='key'):
+        """Another certificate of the authority, in its folder, by the lines of README.md."""
+        lines = blocks_of_page('An own authority')[0]
+        lines = re.sub(r'(?s)openssl.*?(?=openssl)', '', lines, count=1)
+        lines = re.sub(r'(?m)^(install|mkdir).*\n', 'cd /root/authority\n', lines)
+        lines = lines.replace('bureau.lan', name).replace('certificate.pem', f'{certificate}.pem')
+        lines = self.of_page(lines.replace('key.pem', f'{key}.pem'))
+        subprocess.run(['sh', '-ec', lines], check=True, stderr=subprocess.DEVNULL)
+
     def show_certificate(self):
         trust = '--cacert', f'{self.room}/authority.pem'
         self.is_so('who trusts the authority that README.md makes is asked for a password',
@@ -183,16 +192,33 @@ class Certificates:
         found = self.curl('bureau.lan'), self.curl('other.lan', *trust)
         self.is_so('who does not, or asks by another name, is warned', [True, True],
                    [it.startswith('curl: (60) SSL') for it in found])
-        lines = blocks_of_page('An own authority')[0].replace('bureau.lan', 'bank.example')
-        lines = re.sub(r'(?s)openssl.*?(?=openssl)', '', lines, count=1)
-        lines = re.sub(r'(?m)^(install|mkdir).*\n', 'cd /root/authority\n', lines)
-        lines = lines.replace('key.pem', 'bank.key').replace('certificate.pem', 'bank.pem')
-        subprocess.run(['sh', '-ec', self.of_page(lines)], check=True, stderr=subprocess.DEVNULL)
+        self.sign('bank.example', 'bank')
         found = {it: subprocess.run(['openssl', 'verify', '-CAfile', trust[1],
                                      f'{self.room}/authority/{it}.pem'], check=False,
                                     stdout=subprocess.DEVNULL, stderr=subprocess.DEVNULL).returncode
                  for it in ('certificate', 'bank')}
         self.is_so('that authority is good for no other name', {'certificate': 0, 'bank': 2}, found)
+        self.show_renewed()
+
+    def show_renewed(self):
+        """What certbot calls, with another certificate of the same authority."""
+        block, = [it for it in blocks_of_page('By certbot') if 'RENEWED_LINEAGE' in it]
+        lines = re.search(r'(?s)cat >.*?\nchmod.*?\n', block)[0]
+        lines = self.of_page(lines.replace('/usr/local/bin', self.room))
+        self.sign('bureau.lan', 'fullchain', 'privkey')
+        env = {**os.environ, 'RENEWED_LINEAGE': f'{self.room}/authority',
+               'PATH': f'{self.room}/bin:{os.environ["PATH"]}'}
+        for one in (lines, f'{self.room}/bureau-certificate'):
+            subprocess.run(['sh', '-ec', one], check=True, env=env)
+        wanted = ssl.PEM_cert_to_DER_cert(read(f'{self.room}/authority/fullchain.pem').decode())
+        self.reload()
+        for _ in range(50):
+            found = ssl.get_server_certificate(('127.0.0.1', self.closed_door))
+            if ssl.PEM_cert_to_DER_cert(found) == wanted:
+                break
+            time.sleep(0.1)
+        self.is_so('a renewed certificate is shown at the door, by what certbot calls', True,
+                   ssl.PEM_cert_to_DER_cert(found) == wanted)
 
 
 class Passwords:
