@@ -83,8 +83,9 @@ def blocks_of_page(heading):
 
 
 def on_sheet(path):
-    """The customers of a sheet, each with his password."""
-    return dict(re.findall(r'<b>(\w+)</b>.*?<code>(\S+?)</code>', read(path).decode('ascii')))
+    """The customers of a sheet, each with his password; none where there is no sheet."""
+    text = read(path).decode('ascii') if os.path.exists(path) else ''
+    return dict(re.findall(r'<b>(\w+)</b>.*?<code>(\S+?)</code>', text))
 
 
 def is_password(word, hashed):
@@ -365,7 +366,7 @@ class Passwords:
     def look_at_sheet(copy, old, new, stop, wrongs):
         """Where passwords are new they stand on the sheet, and where none is there is no sheet."""
         sheet = f'{copy}/sheet.html'
-        found = on_sheet(sheet) if os.path.exists(sheet) else {}
+        found = on_sheet(sheet)
         if list(found) != ([] if new == old else ['TRIX', 'TROX']):
             wrongs.append((stop, found))
         elif found and not all(it in new[0] and is_password(found[it], new[1][it]) for it in found):
@@ -445,17 +446,18 @@ class Passwords:
                                  for it in pupils + more))
         self.customer('--class', names, f'{names}.more')
         found = on_sheet(f'{names}.more')
-        self.words.update(found)
+        self.words.update({it: found.get(it, '') for it in more})
         self.reload()
         self.is_so('two more of the list get passwords, and the thirty keep theirs', (more, {200}),
                    (list(found), {self.becomes(200, it, 'GET', f'/c/{it}/jobs')
                                   for it in ('STUD32', *pupils)}))
         self.customer('--again', '--class', names, f'{names}.again')
         found = on_sheet(f'{names}.again')
+        word = found.get('STUD1', '')
         self.reload()
         page = 'STUD1', 'GET', '/c/STUD1/jobs'
         self.is_so('a lost sheet is made anew, with others', (32, 200, 401),
-                   (len(found), self.becomes(200, *page, word=found['STUD1']), self.status(*page)))
+                   (len(found), self.becomes(200, *page, word=word), self.status(*page)))
         self.write('wrong', 'STUD1\nM\u00fcller\nSTUD1\nSTUD33 bureau_x\n')
         told = self.customer('--class', f'{self.room}/wrong', f'{names}.wrong', 'bureau_8101')
         self.is_so('each wrong line of a list is named', (2, ['2', '3', '4']),
@@ -463,7 +465,7 @@ class Passwords:
         self.customer('--remove', '--class', names)
         self.reload()
         self.is_so('in the end all of them are taken away', (401, 200),
-                   (self.becomes(401, *page, word=found['STUD1']),
+                   (self.becomes(401, *page, word=word),
                     self.status('ACME', 'GET', '/c/ACME/jobs')))
 
 
@@ -612,7 +614,8 @@ class Clients:
         threading.Timer(2, lambda: lines.append(Lossy(self.door, port=door))).start()
         found = fetch(43, door)
         self.is_so('and where the counter comes up after two seconds', (0, listing), found)
-        lines[0].end()
+        for line in lines:
+            line.end()
 
 
 class Logs:
