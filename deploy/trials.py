@@ -527,13 +527,14 @@ class Clients:
 
         looking = threading.Thread(target=look)
         looking.start()
-        told = self.job('object', f'{TOP}/cases/decks/lines_past_20000.deck', 34)
+        told = self.job('object', f'{TOP}/examples/two_lines.deck', 34, 4000, '-')
+        self.job('object', f'{TOP}/examples/primes.deck', 37)
         words = [self.words['ACME'], self.password('--again', 'ACME')]
         over.set()
         looking.join()
-        lines = (self.fetched('ACME-34.lines') or b'').count(b'\n')
-        self.is_so('a job that ends at a check has its listing too, and status 1', (1, True, True),
-                   (told[0], 'check PRINTER FULL' in told[1], lines > 19000))
+        self.is_so('a job that ends at a check has its listing too, and status 1',
+                   (1, True, b'HELLO\nWORLD\n'),
+                   (told[0], 'check READER EMPTY at 342' in told[1], self.fetched('ACME-34.lines')))
         curls = [it for it in seen if it.startswith(b'curl') and f'{self.door}/c'.encode() in it]
         self.is_so('no list of processes shows a password of `job` or `customer`', (True, []),
                    (bool(curls), [it for it in seen if any(one.encode() in it for one in words)]))
@@ -660,9 +661,9 @@ class Logs:
         before = {tuple(it.split()[:2]) for it in self.read_log('--before', moment)}
         self.is_so('read-log --before has who handed in before', (True, False),
                    (('LOGOS', '51') in before, ('LOGOS', '52') in before))
-        longest = self.read_log('--longest')[0].split()
-        self.is_so('read-log --longest begins with the job that took longest',
-                   (['LOGOS', '52'], True), (longest[:2], float(longest[-1]) > 1.5))
+        longest = [it.split() for it in self.read_log('--longest') if form.fullmatch(it)]
+        self.is_so('read-log --longest has the job first that took longer', (['52', '51'], True),
+                   ([it[1] for it in longest], float(longest[0][-1]) > 1.5))
         self.show_who_did_not(moment)
 
     def show_who_did_not(self, moment):
