@@ -6,6 +6,7 @@ pub mod WordsRead
 pub mod RecordLines
 pub mod RecordLaw
 pub mod Readable
+mod BagLemmas
 mod CopyLemmas
 mod ChosenRows
 pub mod PartLemmas

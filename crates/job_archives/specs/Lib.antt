@@ -1,4 +1,5 @@
 pub mod Archives
+pub mod Bags
 pub mod Facts
 pub mod Lists
 pub mod Names

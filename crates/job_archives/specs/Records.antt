@@ -41,9 +41,9 @@ abbrev pub stretch_line : Stretch → List ℕ
 stretch_line s = codes "stretch " ++ switches.text_of s.switches ++ codes " " ++ decimal s.granted
     ++ codes "\n"
 
--- the line of a file: the digest of its bytes, and its name
+-- the line of a file: its name, and the digest of its bytes, as `sha256sum --tag` writes it
 abbrev pub digest_line : List ℕ → List ℕ → List ℕ
-digest_line name bytes = codes "sha256 " ++ digest_of bytes ++ codes " " ++ name ++ codes "\n"
+digest_line name bytes = codes "SHA256 (" ++ name ++ codes ") = " ++ digest_of bytes ++ codes "\n"
 
 -- the lines of a job's name
 unfoldable pub name_lines : Entry → List ℕ

@@ -3,9 +3,11 @@
 ghost use Rattle.std.specs.Prelude.{⊤};
 
 use crate::faults::{done_or_told, found, tell_unopened};
+use crate::help::agent;
 use crate::job_folders::{Filed, file_job};
+use crate::readme::put_readme;
 use command_line::Status;
-use job_archives::files_of;
+use job_archives::bag_of;
 use job_checks::{EachJob, JobReport, JobRun, Walked, each_job, job_text, orphans_text};
 use ledger_files::{Look, look_into};
 use ledger_tables::{Fault, OpenFault};
@@ -65,6 +67,13 @@ impl<W: Write> Archiving<'_, W> {
                 write!(self.output, "{customer} {number} is there and differs")?;
                 show_names(names, self.output)
             }
+            Filed::Older => {
+                self.counts.differing = self.counts.differing.saturating_add(1);
+                writeln!(
+                    self.output,
+                    "{customer} {number} is of the older form: move it away, and archive again"
+                )
+            }
             Filed::Hindered(path) => {
                 self.counts.differing = self.counts.differing.saturating_add(1);
                 let path = path.as_str();
@@ -78,8 +87,8 @@ impl<W: Write> Archiving<'_, W> {
 
     /// Files a job that is as it ran.
     fn file(&mut self, run: &JobRun) -> io::Result<()> {
-        let archive = files_of(self.rt.alloc(), run)?;
-        let filed = file_job(self.rt, self.folder, run.customer(), run.number(), &archive)?;
+        let bag = bag_of(self.rt.alloc(), agent(), run)?;
+        let filed = file_job(self.rt, self.folder, run.customer(), run.number(), &bag)?;
         self.tell(run, &filed)
     }
 
@@ -133,12 +142,13 @@ fn differ(count: usize) -> &'static str {
     if count == 1 { "differs" } else { "differ" }
 }
 
-/// Makes the folder of an archive, unless it is there.
+/// Makes the folder of an archive, and the text that says how to read it, unless they are there.
 fn make_folder(rt: &HostRuntime, folder: &str) -> io::Result<()> {
     match fs::create_dir(rt, folder) {
-        Err(error) if error.kind() == io::ErrorKind::AlreadyExists => Ok(()),
-        made => made,
+        Err(error) if error.kind() == io::ErrorKind::AlreadyExists => {}
+        made => made?,
     }
+    put_readme(rt, folder)
 }
 
 /// Prints a row of `bureau` that is not as it is to be, and how many jobs were written, were there

@@ -137,13 +137,16 @@ example:
   operator archive my.bureau archive
 
 Each job is run again as check does. For each one that is as it ran a folder
-FOLDER/CUSTOMER/NUMBER is written, with deck.text (as it was submitted),
-loaded.text (as the machine read it), lines.text, cards.punch, cards.text, and
-record: the customer, the number, the kind, the size, the switches and the
-granted instructions of each stretch, how the job stands, whether it is held and
-collected, and the SHA-256 of each file. A folder that is there already is
-compared and not written. The bureau's file is not changed. Status 1: something
-differs, or could not be written.
+FOLDER/CUSTOMER/NUMBER is written, a bag of BagIt 1.0 (RFC 8493). In its data/
+are deck.text (as it was submitted), loaded.text (as the machine read it),
+lines.text, cards.punch, cards.text, and record: the customer, the number, the
+kind, the size, the profile, the switches and the granted instructions of each
+stretch, how the job stands, whether it is held and collected, the pockets of
+its cards, and the SHA-256 of the other files. sha256sum -c reads record and the
+two manifests. A folder that is there already is compared and not written; which
+version of the program wrote it does not count. FOLDER/README.txt says how to
+read it all; one that is there stays. The bureau's file is not changed. Status
+1: something differs, or could not be written.
 ";
 
 /// The text that `work --help` prints.
@@ -204,6 +207,14 @@ answers is no bureau.
 
 /// The text that `--version` prints.
 pub const VERSION: &str = version_of!("operator");
+
+/// The program with its version, as the bags name it that it writes: what the version begins with.
+pub(crate) fn agent() -> &'static str {
+    match VERSION.split_once(" (") {
+        Some((agent, _)) => agent,
+        None => VERSION,
+    }
+}
 
 /// The help of a subcommand, or the whole help.
 pub(crate) fn page(subcommand: Option<Subcommand>) -> &'static str

@@ -19,6 +19,7 @@ mod job_folders;
 mod joining;
 mod listing;
 mod parting;
+mod readme;
 mod subcommands;
 mod tallies;
 mod tasks;
