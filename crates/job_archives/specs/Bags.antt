@@ -7,7 +7,7 @@ use Rattle.texts.specs.Digests.{digest_of}
 use Rattle.job_archives.specs.Archives.{File, Files, archive_of, payload_of}
 
 -- `bagit.txt`: the declaration of a bag
-unfoldable pub declaration : List ℕ
+abbrev pub declaration : List ℕ
 declaration = codes "BagIt-Version: 1.0\nTag-File-Character-Encoding: UTF-8\n"
 
 -- the line of a file in a manifest: the digest of its bytes, and its path, as `sha256sum` writes it

@@ -55,9 +55,10 @@ pub struct BagFile<'a> {
     pub bytes: &'a [u8],
 }
 
-/// The file of this path.
-pub(crate) fn file<'a>(path: &'static str, bytes: &'a [u8]) -> BagFile<'a>
-    ensures { result ≡ record { path = path; bytes = bytes; } }
+/// The file of this path, with these bytes.
+pub(crate) fn file<'a>(path: &'a str, bytes: &'a [u8]) -> BagFile<'a>
+    ensures path { result.path.now ≡ path.now }
+    ensures bytes { result.bytes.now ≡ bytes.now }
 {
     BagFile { path, bytes }
 }

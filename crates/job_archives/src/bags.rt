@@ -3,7 +3,7 @@
 ghost use Rattle.std.specs.Prelude.{◌≡◌, ◌++◌, codes, decimal, drop, IfOk, IfSome, OnOk};
 ghost use Rattle.job_archives.specs.{
   Archives.{files_as},
-  Bags.{agent_line, are_tags, bag_files, bag_of, is_agent_line, is_info, is_line, is_same, manifest_line, manifest_of, octets_in, oxum_of, tag_files, tag_line, told_lines},
+  Bags.{agent_line, are_tags, bag_files, bag_of, declaration, is_agent_line, is_info, is_line, is_same, manifest_line, manifest_of, octets_in, oxum_of, tag_files, tag_line, told_lines},
 };
 
 use crate::archives::{Archive, BagFile, file, files_of};
@@ -11,9 +11,6 @@ use job_checks::JobRun;
 use std::alloc::{AllocError, Global};
 use std::marker::Model;
 use texts::{push_decimal, push_digest};
-
-/// `bagit.txt`.
-const DECLARATION: &str = "BagIt-Version: 1.0\nTag-File-Character-Encoding: UTF-8\n";
 
 /// The files of a bag, by their bytes; `bagit.txt` is the same in each.
 #[derive(Drop)]
@@ -42,6 +39,13 @@ impl Model for Bag {
       manifest = bag.manifest.items;
       tags = bag.tags.items;
     } };
+}
+
+/// `bagit.txt`.
+fn declaration() -> &'static [u8]
+    ensures { result.now ≡ declaration }
+{
+    b"BagIt-Version: 1.0\nTag-File-Character-Encoding: UTF-8\n"
 }
 
 /// Adds the line of a file to a manifest: the digest of its bytes, and its path.
@@ -141,13 +145,12 @@ fn info_of(alloc: Global, told: &[u8], agent: &str) -> Result<Vec<u8>, AllocErro
 }
 
 /// The tag files but the tag manifest.
-#[tactic(auto, unfolding(crate::specs::Bags::declaration))]
 fn tag_files<'a>(info: &'a [u8], manifest: &'a [u8]) -> [BagFile<'a>; 3]
     ensures { files_as result ≡ tag_files info.now manifest.now }
 {
     [
         file("bag-info.txt", info),
-        file("bagit.txt", DECLARATION.as_bytes()),
+        file("bagit.txt", declaration()),
         file("manifest-sha256.txt", manifest),
     ]
 }
@@ -212,20 +215,19 @@ fn are_tags(tags: &[u8], text: &[u8]) -> bool
 
 impl Bag {
     /// The files, in the order of their names.
-    #[tactic(auto, unfolding(crate::specs::Bags::declaration))]
     pub fn files(&self) -> [BagFile<'_>; 10]
         ensures { files_as result ≡ bag_files self.now }
     {
-        let [first, second, third, fourth, fifth, sixth] = self.payload.payload();
+        let payload = &self.payload;
         [
             file("bag-info.txt", &self.info),
-            file("bagit.txt", DECLARATION.as_bytes()),
-            first,
-            second,
-            third,
-            fourth,
-            fifth,
-            sixth,
+            file("bagit.txt", declaration()),
+            file("data/cards.punch", &payload.punched),
+            file("data/cards.text", &payload.cards),
+            file("data/deck.text", &payload.deck),
+            file("data/lines.text", &payload.lines),
+            file("data/loaded.text", &payload.loaded),
+            file("data/record", &payload.facts),
             file("manifest-sha256.txt", &self.manifest),
             file("tagmanifest-sha256.txt", &self.tags),
         ]
