@@ -99,7 +99,8 @@ are_tags tags text = length text == length tags && bytes_eq (drop 64 text) (drop
 
 -- whether the bytes that are there are those of this file of a bag, whichever version of the program
 -- wrote them
-abbrev pub is_same : Bag → File → List ℕ → Bool
-is_same bag file text = if bytes_eq file.0 (codes "bag-info.txt") then is_info bag.told text
-    else if bytes_eq file.0 (codes "tagmanifest-sha256.txt") then are_tags bag.tags text
-    else bytes_eq text file.1
+unfoldable pub is_same : Bag → File → List ℕ → Bool
+is_same bag file text =
+    if bytes_eq file.0 (codes "bag-info.txt") then is_info bag.told text else
+    if bytes_eq file.0 (codes "tagmanifest-sha256.txt") then are_tags bag.tags text else
+    bytes_eq text file.1

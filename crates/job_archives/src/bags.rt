@@ -235,6 +235,7 @@ impl Bag {
 
     /// Whether the bytes that are there are those of a file of this bag. Which version of the
     /// program wrote them does not count.
+    #[tactic(auto, unfolding(crate::specs::Bags::is_same))]
     pub fn is_same(&self, file: BagFile<'_>, text: &[u8]) -> bool
         ensures { result ≡ is_same self.now (file.path.now, file.bytes.now) text.now }
     {
