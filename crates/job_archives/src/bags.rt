@@ -119,11 +119,7 @@ fn oxum_of(alloc: Global, payload: &[BagFile<'_>]) -> Result<Vec<u8>, AllocError
 
 /// The lines of `bag-info.txt` that follow from the job.
 #[tactic(auto, unfolding(crate::specs::Bags::told_lines))]
-fn told_lines(
-    alloc: Global,
-    run: &JobRun,
-    payload: &[BagFile<'_>],
-) -> Result<Vec<u8>, AllocError>
+fn told_lines(alloc: Global, run: &JobRun, payload: &[BagFile<'_>]) -> Result<Vec<u8>, AllocError>
     ensures { IfOk result (λ text. text.items ≡ told_lines run.now (files_as payload.now)) }
 {
     let name = name_of(alloc, run)?;

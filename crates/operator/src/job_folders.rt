@@ -17,8 +17,10 @@ pub(crate) enum Place {
     Other,
 }
 
-/// The folder of the payload in a bag, and what the paths of its files begin with.
+/// The folder of the payload in a bag.
 const DATA: &str = "data";
+
+/// What the paths of the payload begin with.
 const IN_DATA: &str = "data/";
 
 /// How many bytes more than a file of a bag has one of its name may have, and still be read: the
@@ -79,33 +81,43 @@ fn fill(rt: &HostRuntime, path: &str, bag: &Bag) -> io::Result<()> {
     settle(rt, path)
 }
 
+/// Whether what is at a path is a folder.
+fn is_folder(rt: &HostRuntime, path: &str) -> io::Result<bool> {
+    match place_at(rt, path)? {
+        Place::Folder => Ok(true),
+        Place::Nothing | Place::Other => Ok(false),
+    }
+}
+
+/// What came of removing something: that it could not be removed is told by what is there then.
+fn removed(done: io::Result<()>) -> io::Result<()> {
+    match done {
+        Err(error) if error.kind() == ErrorKind::OutOfMemory => Err(error),
+        _ => Ok(()),
+    }
+}
+
 /// Removes a folder that a killed run has left, with the files that are a bag's. Returns whether it
-/// is gone: it stays if there is anything else in it.
+/// is gone: it stays if there is anything else in it. Nothing is removed behind a link.
 fn remove_part(rt: &HostRuntime, part: &str, bag: &Bag) -> io::Result<bool> {
+    let data = format!(in rt.alloc(); "{part}/data")?;
+    let has_data = is_folder(rt, &data)?;
     for file in bag.files() {
-        let name = file.path;
-        let path = format!(in rt.alloc(); "{part}/{name}")?;
-        match fs::remove_file(rt, &path) {
-            Err(error) if error.kind() == ErrorKind::OutOfMemory => return Err(error),
-            _ => {}
+        if has_data || !file.path.starts_with(IN_DATA) {
+            let name = file.path;
+            let path = format!(in rt.alloc(); "{part}/{name}")?;
+            removed(fs::remove_file(rt, &path))?;
         }
     }
-    let data = format!(in rt.alloc(); "{part}/data")?;
-    match fs::remove_dir(rt, &data) {
-        Err(error) if error.kind() == ErrorKind::OutOfMemory => return Err(error),
-        _ => {}
+    if has_data {
+        removed(fs::remove_dir(rt, &data))?;
     }
     Ok(fs::remove_dir(rt, part).is_ok())
 }
 
 /// Writes the folder of a job under another name, and then renames it. What a killed run has left
 /// under the other name is replaced. If the folder cannot be written, nothing is left of it.
-fn write_folder(
-    rt: &HostRuntime,
-    customer: &str,
-    path: &str,
-    bag: &Bag,
-) -> io::Result<Filed> {
+fn write_folder(rt: &HostRuntime, customer: &str, path: &str, bag: &Bag) -> io::Result<Filed> {
     let part = format!(in rt.alloc(); "{path}.part")?;
     let is_free = match place_at(rt, &part)? {
         Place::Nothing => true,
@@ -187,14 +199,6 @@ fn push_others(
     Ok(())
 }
 
-/// Whether what is at a path is a folder.
-fn is_folder(rt: &HostRuntime, path: &str) -> io::Result<bool> {
-    match place_at(rt, path)? {
-        Place::Folder => Ok(true),
-        Place::Nothing | Place::Other => Ok(false),
-    }
-}
-
 /// Compares the folder of a job with its bag.
 fn compare_folder(rt: &HostRuntime, path: &str, bag: &Bag) -> io::Result<Filed> {
     let mut names = Vec::new(rt.alloc());
@@ -221,7 +225,7 @@ fn compare_folder(rt: &HostRuntime, path: &str, bag: &Bag) -> io::Result<Filed> 
 }
 
 /// Whether there is nothing at a path.
-fn is_free(rt: &HostRuntime, path: &str) -> io::Result<bool> {
+fn has_nothing(rt: &HostRuntime, path: &str) -> io::Result<bool> {
     match place_at(rt, path)? {
         Place::Nothing => Ok(true),
         Place::Folder | Place::Other => Ok(false),
@@ -232,13 +236,13 @@ fn is_free(rt: &HostRuntime, path: &str) -> io::Result<bool> {
 /// stands in it and not in `data`.
 fn is_older(rt: &HostRuntime, path: &str, bag: &Bag) -> io::Result<bool> {
     let declaration = format!(in rt.alloc(); "{path}/bagit.txt")?;
-    if !is_free(rt, &declaration)? {
+    if !has_nothing(rt, &declaration)? {
         return Ok(false);
     }
     for file in bag.files() {
         if let Some(name) = file.path.strip_prefix(IN_DATA) {
             let older = format!(in rt.alloc(); "{path}/{name}")?;
-            if !is_free(rt, &older)? {
+            if !has_nothing(rt, &older)? {
                 return Ok(true);
             }
         }
