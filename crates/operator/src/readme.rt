@@ -166,20 +166,22 @@ the next instruction. What it prints is lines.text, and what it punches are the
 cards of cards.text.
 
 With the program \"bureau\" of Puckersilt, for the job ACME 9 of kind object, with
-size 4000, the stretches \"A 4000\" and \"- 2000\", and 6 cards in deck.text, write
+size 4000, the stretches \"A 2034\" and \"- 2000\", and 6 cards in deck.text, write
 a file SCRIPT of these lines and the cards:
 
   submit ACME 9 object 4000 A 6
   (here the 6 lines of deck.text)
-  slice ACME 9 2000
+  slice ACME 9 34
   slice ACME 9 2000
   start ACME 9 -
   slice ACME 9 2000
 
-Each slice is of at most 2000 instructions, and the slices of a stretch are of N
-together; one of 0 has none. Where the record says so, add \"hold ACME 9\" or
+A slice is of at most 2000 instructions, and the slices of a stretch are of N
+together, the smallest first, since a job that has halted takes no more; a
+stretch of 0 has no slice. Where the record says so, add \"hold ACME 9\" or
 \"collect ACME 9\". Then:
 
+  bureau init new.bureau
   bureau apply new.bureau SCRIPT
   operator archive new.bureau again
 
