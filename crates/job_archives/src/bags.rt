@@ -51,7 +51,7 @@ fn declaration() -> &'static [u8]
 /// Adds the line of a file to a manifest: the digest of its bytes, and its path.
 fn push_digested(alloc: Global, out: &mut Vec<u8>, file: BagFile<'_>) -> Result<(), AllocError>
     ensures { OnOk result (out.new.items
-        ≡ out.old.items ++ manifest_line file.path.now file.bytes.now) }
+        ≡ out.old.items ++ manifest_line file.entry.path.now file.entry.bytes.now) }
 {
     push_digest(alloc, out, file.bytes)?;
     out.extend_from_slice(b"  ")?;
@@ -233,7 +233,7 @@ impl Bag {
     /// program wrote them does not count.
     #[tactic(auto, unfolding(crate::specs::Bags::is_same))]
     pub fn is_same(&self, file: BagFile<'_>, text: &[u8]) -> bool
-        ensures { result ≡ is_same self.now (file.path.now, file.bytes.now) text.now }
+        ensures { result ≡ is_same self.now (file.entry.path.now, file.entry.bytes.now) text.now }
     {
         match file.path {
             "bag-info.txt" => is_info(&self.told, text),
