@@ -4,6 +4,8 @@ pub mod Facts
 pub mod Lists
 pub mod Names
 pub mod Records
+pub mod Reruns
+pub mod Restoring
 pub mod Copies
 pub mod Parts
 pub mod Joins

@@ -8,6 +8,10 @@
 //! (`specs/Archives.antt`, `specs/Records.antt`, `specs/Bags.antt`), and what they hold can be read
 //! back: the cards ([`archives_are_read`]), and the whole job ([`archives_are_whole`]).
 //!
+//! [`run_archived`] runs a job again from two files of its archive alone, and returns it only if its
+//! archive has these two files (`specs/Reruns.antt`). [`stretch_script`] and [`flag_script`] return
+//! the commands that hand it in again (`specs/Restoring.antt`).
+//!
 //! [`list_jobs`] returns the list of a bureau's jobs: the text that a definition gives for the
 //! office that the tables stand for (`specs/Lists.antt`), and what a crash may leave of the store
 //! stands for that office whatever it returns.
@@ -32,7 +36,10 @@ mod listing;
 mod names;
 mod owners;
 mod punched;
+mod record_texts;
 mod records;
+mod rerun;
+mod restoring;
 mod rows;
 
 pub use archives::{Archive, BagFile, files_of};
@@ -44,3 +51,6 @@ pub use joins::compare_join;
 pub use laws::{archives_are_read, archives_are_whole, joins_keep_customers, parts_keep_customers};
 pub use listing::list_jobs;
 pub use owners::{first_shared, first_unknown};
+pub use record_texts::RecordPart;
+pub use rerun::{Unrun, run_archived};
+pub use restoring::{flag_script, parts_of, stretch_script};

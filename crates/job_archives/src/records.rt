@@ -10,7 +10,7 @@ use std::alloc::{AllocError, Global};
 use units::{Profile, Punched};
 
 /// The word for a kind.
-fn kind_word(kind: Kind) -> &'static str
+pub(crate) fn kind_word(kind: Kind) -> &'static str
     ensures { result.now ≡ kind_word kind }
 {
     match kind {

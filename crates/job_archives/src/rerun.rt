@@ -1,0 +1,135 @@
+//! A job that is run again from its archive alone.
+
+ghost use Rattle.std.specs.Prelude.{◌≡◌, ℕ, List, IfErr, IfOk, true};
+ghost use Rattle.texts.specs.Names.{is_customer, is_number};
+ghost use Rattle.job_archives.specs.{
+  Reruns.{HasRunOtherwise, IsRunOf},
+  declared.rerun.Unrun.TheVariants.{NoMemory},
+};
+
+use crate::archives::files_of;
+use crate::record_texts::{
+    RecordPart, ToldMachine, flags_in, split_machine, split_name, split_stretches,
+};
+use cards::{CardError, CardFault, Deck, read_text};
+use job_checks::{JobReport, JobRun, ToldJob, run_told};
+use office::Stretch;
+use std::alloc::{AllocError, Global};
+use std::str;
+use texts::JobName;
+
+/// Why a job is not run again from its archive.
+#[derive(Drop)]
+pub enum Unrun {
+    /// There is no memory.
+    NoMemory,
+    /// `deck.text` is no deck: its first fault.
+    Deck(CardFault),
+    /// `record` is none: this part of it.
+    Record(RecordPart),
+    /// No bureau has such a job: what a check tells of it.
+    Job(JobReport),
+    /// The job that these files tell has another record when it is run again.
+    Other(JobRun),
+}
+
+impl From<AllocError> for Unrun {
+    ghost from_gives = { λ _ unrun. unrun ≡ NoMemory };
+
+    fn from(_error: AllocError) -> Self {
+        Unrun::NoMemory
+    }
+}
+
+/// What a record tells.
+#[derive(Drop)]
+struct ToldRecord<'a> {
+    name: JobName<'a>,
+    machine: ToldMachine,
+    stretches: Vec<Stretch>,
+    held: bool,
+    collected: bool,
+}
+
+/// What a text tells as a record.
+fn read_lines(alloc: Global, text: &str) -> Result<ToldRecord<'_>, Unrun>
+    ensures customer { IfOk result (λ told. is_customer told.name.customer.now ≡ true) }
+    ensures number { IfOk result (λ told. is_number told.name.number ≡ true) }
+    ensures none { (deck record : List ℕ) → IfErr result (HasRunOtherwise deck record) }
+{
+    let Some((name, rest)) = split_name(text) else {
+        return Err(Unrun::Record(RecordPart::Name));
+    };
+    let Some((machine, rest)) = split_machine(rest) else {
+        return Err(Unrun::Record(RecordPart::Machine));
+    };
+    let Some((stretches, rest)) = split_stretches(alloc, rest)? else {
+        return Err(Unrun::Record(RecordPart::Stretches));
+    };
+    let Some((held, collected)) = flags_in(rest) else {
+        return Err(Unrun::Record(RecordPart::Flags));
+    };
+    Ok(ToldRecord {
+        name,
+        machine,
+        stretches,
+        held,
+        collected,
+    })
+}
+
+/// The deck of a text.
+fn deck_of(alloc: Global, text: &[u8]) -> Result<Deck, Unrun>
+    ensures none { (deck record : List ℕ) → IfErr result (HasRunOtherwise deck record) }
+{
+    match read_text(alloc, text) {
+        Ok(deck) => Ok(deck),
+        Err(fault) => match fault.error {
+            CardError::NoMemory => Err(Unrun::NoMemory),
+            _ => Err(Unrun::Deck(fault)),
+        },
+    }
+}
+
+/// Runs the job again that a record and a deck tell.
+fn run_record(alloc: Global, deck: Deck, record: &[u8]) -> Result<JobRun, Unrun>
+    ensures none { (deck record : List ℕ) → IfErr result (HasRunOtherwise deck record) }
+{
+    let Ok(text) = str::from_utf8(record) else {
+        return Err(Unrun::Record(RecordPart::Name));
+    };
+    let ToldRecord {
+        name,
+        machine,
+        stretches,
+        held,
+        collected,
+    } = read_lines(alloc, text)?;
+    let told = ToldJob {
+        kind: machine.kind,
+        size: machine.size,
+        deck,
+        profile: machine.profile,
+        stretches,
+        held,
+        collected,
+    };
+    match run_told(alloc, name, told)? {
+        Ok(run) => Ok(run),
+        Err(report) => Err(Unrun::Job(report)),
+    }
+}
+
+/// Runs a job again from two files of its archive, `deck.text` and `record`, and compares what it
+/// makes with them. By the law `archives_are_whole` no other job has these two files.
+pub fn run_archived(alloc: Global, deck: &[u8], record: &[u8]) -> Result<JobRun, Unrun>
+    ensures run { IfOk result (λ run. IsRunOf deck.now record.now run) }
+    ensures other { IfErr result (HasRunOtherwise deck.now record.now) }
+{
+    let run = run_record(alloc, deck_of(alloc, deck)?, record)?;
+    let archive = files_of(alloc, &run)?;
+    if archive.deck.as_slice() != deck || archive.facts.as_slice() != record {
+        return Err(Unrun::Other(run));
+    }
+    Ok(run)
+}
