@@ -6,6 +6,7 @@ use crate::faults::{done_or_told, found, tell_unopened};
 use crate::help::agent;
 use crate::job_folders::{Filed, file_job};
 use crate::readme::put_readme;
+use crate::verifying::differ;
 use command_line::Status;
 use job_archives::bag_of;
 use job_checks::{EachJob, JobReport, JobRun, Walked, each_job, job_text, orphans_text};
@@ -135,11 +136,6 @@ impl<W: Write> Look for Archiving<'_, W> {
         self.walked = Some(walked.map_err(OpenFault::from));
         store
     }
-}
-
-/// The word for so many jobs that differ.
-fn differ(count: usize) -> &'static str {
-    if count == 1 { "differs" } else { "differ" }
 }
 
 /// Makes the folder of an archive, and the text that says how to read it, unless they are there.

@@ -9,7 +9,7 @@ use texts::push_digest;
 const MOST_BYTES: u64 = 16_000_000;
 
 /// The files of the payload, in the order of the manifest.
-const PAYLOAD: [&str; 6] = [
+pub(crate) const PAYLOAD: [&str; 6] = [
     "data/cards.punch",
     "data/cards.text",
     "data/deck.text",

@@ -3,6 +3,7 @@
 ghost use Rattle.std.specs.Prelude.{◌≡◌, true};
 ghost use Rattle.texts.specs.Names.{is_customer};
 
+use crate::bag_files::PAYLOAD;
 use job_archives::{Bag, BagFile};
 use std::alloc::AllocError;
 use std::fs::{File, OpenOptions};
@@ -200,7 +201,7 @@ fn push_others(
 }
 
 /// Compares the folder of a job with its bag.
-fn compare_folder(rt: &HostRuntime, path: &str, bag: &Bag) -> io::Result<Filed> {
+pub(crate) fn compare_folder(rt: &HostRuntime, path: &str, bag: &Bag) -> io::Result<Filed> {
     let mut names = Vec::new(rt.alloc());
     let data = format!(in rt.alloc(); "{path}/data")?;
     let has_data = is_folder(rt, &data)?;
@@ -234,13 +235,13 @@ fn has_nothing(rt: &HostRuntime, path: &str) -> io::Result<bool> {
 
 /// Whether a folder is of the older form: it has no declaration of a bag, and a file of a payload
 /// stands in it and not in `data`.
-fn is_older(rt: &HostRuntime, path: &str, bag: &Bag) -> io::Result<bool> {
+pub(crate) fn is_older(rt: &HostRuntime, path: &str) -> io::Result<bool> {
     let declaration = format!(in rt.alloc(); "{path}/bagit.txt")?;
     if !has_nothing(rt, &declaration)? {
         return Ok(false);
     }
-    for file in bag.files() {
-        if let Some(name) = file.path.strip_prefix(IN_DATA) {
+    for file in PAYLOAD {
+        if let Some(name) = file.strip_prefix(IN_DATA) {
             let older = format!(in rt.alloc(); "{path}/{name}")?;
             if !has_nothing(rt, &older)? {
                 return Ok(true);
@@ -282,7 +283,7 @@ pub(crate) fn file_job(
     match place_at(rt, &path)? {
         Place::Nothing => write_folder(rt, &customer, &path, bag),
         Place::Folder => {
-            if is_older(rt, &path, bag)? {
+            if is_older(rt, &path)? {
                 return Ok(Filed::Older);
             }
             compare_folder(rt, &path, bag)

@@ -4,7 +4,7 @@ ghost use Rattle.std.specs.Prelude.{IfOk};
 ghost use Rattle.command_line.specs.{Arguments.{given}, Plain.{texts}, Programs.{AsksFor, wish_as}};
 ghost use Rattle.operator.specs.{
   Subcommands.{operator},
-  Tasks.{AreRounds, IsPortIn, Wants, WantsArchive, WantsCheck, WantsCopy, WantsJobs, WantsJoin, WantsPart, WantsTask, WantsWatch, WantsWork},
+  Tasks.{AreRounds, IsPortIn, Wants, WantsArchive, WantsCheck, WantsCopy, WantsJobs, WantsJoin, WantsPart, WantsRestore, WantsTask, WantsVerify, WantsWatch, WantsWork},
 };
 
 use crate::help::{VERSION, page};
@@ -75,6 +75,18 @@ pub enum Task<'a> {
         file: &'a str,
         /// The path of the folder that holds the jobs' folders.
         folder: &'a str,
+    },
+    /// Run each job of a shelf again, and compare it with its bag.
+    Verify {
+        /// The path of the folder that holds the jobs' folders.
+        folder: &'a str,
+    },
+    /// Write a new bureau's file with the jobs of a shelf, handed in again.
+    Restore {
+        /// The path of the folder that holds the jobs' folders.
+        folder: &'a str,
+        /// The path of the new file.
+        new: &'a str,
     },
     /// Run the queue of a bureau that is served.
     Work {
@@ -158,6 +170,23 @@ fn archive_task<'a>(found: &Found<'a>) -> Result<Task<'a>, Mistake<'a>>
     Ok(Task::Archive { file, folder })
 }
 
+/// The task of a subcommand `verify`.
+fn verify_task<'a>(found: &Found<'a>) -> Result<Task<'a>, Mistake<'a>>
+    ensures { IfOk result (WantsVerify (given found.now)) }
+{
+    let folder = found.needed("FOLDER")?;
+    Ok(Task::Verify { folder })
+}
+
+/// The task of a subcommand `restore`.
+fn restore_task<'a>(found: &Found<'a>) -> Result<Task<'a>, Mistake<'a>>
+    ensures { IfOk result (WantsRestore (given found.now)) }
+{
+    let folder = found.needed("FOLDER")?;
+    let new = found.needed("NEW")?;
+    Ok(Task::Restore { folder, new })
+}
+
 /// The port in PORT of a subcommand.
 fn port_in(found: &Found<'_>) -> Result<u16, Mistake<'static>>
     ensures { IfOk result (IsPortIn (given found.now)) }
@@ -215,6 +244,8 @@ fn subcommand_task<'a>(
         Subcommand::Part => part_task(alloc, found),
         Subcommand::Join => join_task(found),
         Subcommand::Archive => archive_task(found),
+        Subcommand::Verify => verify_task(found),
+        Subcommand::Restore => restore_task(found),
         Subcommand::Work => work_task(found),
         Subcommand::Watch => watch_task(found),
     }
