@@ -125,7 +125,7 @@ fn slices_in(stretch: Stretch, part: u32) -> u32
 
 /// Returns how many parts the script of a stretch has, at least one.
 pub fn parts_of(stretch: Stretch) -> u32
-    ensures { result ≡ stretch.granted / 200000000 + 1 }
+    ensures count { result ≡ stretch.granted / 200000000 + 1 }
     ensures few { result < 10000 }
 {
     stretch.granted / (SLICE * MOST_SLICES) + 1

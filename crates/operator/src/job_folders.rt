@@ -11,6 +11,7 @@ use std::io::{ErrorKind, Write};
 use std::{fs, io};
 
 /// What is at a path: itself, and not what a link there leads to.
+#[derive(Drop)]
 pub(crate) enum Place {
     Nothing,
     Folder,

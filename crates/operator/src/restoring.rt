@@ -20,6 +20,7 @@ use std::io::{ErrorKind, Write};
 use std::{fs, io};
 
 /// Why the commands of a job were not all carried out.
+#[derive(Drop)]
 enum Unapplied {
     /// A command was refused.
     Refused,
@@ -229,6 +230,7 @@ impl<W: Write> Look for Comparing<'_, W> {
 }
 
 /// What came of a restored shelf.
+#[derive(Drop)]
 enum Restored {
     /// All that is on it was handed in, and compared.
     Compared(Counts),
