@@ -1,19 +1,14 @@
 //! The subcommand `archive`.
 
-ghost use Rattle.std.specs.Prelude.{⊤};
-
-use crate::faults::{done_or_told, found, tell_unopened};
+use crate::faults::{done_or_told, tell_unopened};
 use crate::help::agent;
 use crate::job_folders::{Filed, file_job};
+use crate::job_walks::{OnJob, walk_jobs};
 use crate::readme::put_readme;
 use crate::verifying::differ;
 use command_line::Status;
 use job_archives::bag_of;
-use job_checks::{EachJob, JobReport, JobRun, Walked, each_job, job_text, orphans_text};
-use ledger_files::{Look, look_into};
-use ledger_tables::{Fault, OpenFault};
-use sqlite::{Alter, Connection};
-use std::alloc::Global;
+use job_checks::{JobReport, JobRun, Walked, job_text, orphans_text};
 use std::io::Write;
 use std::{fs, io};
 
@@ -32,10 +27,6 @@ struct Archiving<'a, W: Write> {
     folder: &'a str,
     output: &'a mut W,
     counts: Counts,
-    /// What came of the walk through the jobs.
-    walked: Option<Result<Walked, OpenFault>>,
-    /// Why the walk was ended, if it was not the bureau's store.
-    failed: Option<io::Error>,
 }
 
 /// Prints the names in which a folder differs, with a comma between two.
@@ -99,42 +90,19 @@ impl<W: Write> Archiving<'_, W> {
         let text = job_text(self.rt.alloc(), report)?;
         self.output.write_all(&text)
     }
+}
 
-    /// Files a job that is as it ran, or prints what differs of it.
-    fn file_or_tell(&mut self, found: Result<JobRun, JobReport>) -> io::Result<()> {
+impl<W: Write> OnJob for Archiving<'_, W> {
+    fn begin(&mut self) -> io::Result<()> {
+        make_folder(self.rt, self.folder)
+    }
+
+    fn take_job(&mut self, found: Result<JobRun, JobReport>) -> io::Result<()> {
         match found {
             Ok(run) => self.file(&run)?,
             Err(report) => self.tell_difference(&report)?,
         }
         self.output.flush()
-    }
-}
-
-impl<W: Write> EachJob for Archiving<'_, W> {
-    ghost takes = { λ old new found. ⊤ };
-
-    fn take(&mut self, found: Result<JobRun, JobReport>) -> Result<(), Fault> {
-        match self.file_or_tell(found) {
-            Ok(()) => Ok(()),
-            Err(error) => {
-                self.failed = Some(error);
-                Err(Fault::Store)
-            }
-        }
-    }
-}
-
-impl<W: Write> Look for Archiving<'_, W> {
-    ghost looked = { λ old new. ⊤ };
-
-    fn look<S: Alter + Drop>(&mut self, alloc: Global, conn: Connection<S>) -> S {
-        if let Err(error) = make_folder(self.rt, self.folder) {
-            self.failed = Some(error);
-            return conn.into_store();
-        }
-        let (walked, store) = each_job(alloc, conn, self);
-        self.walked = Some(walked.map_err(OpenFault::from));
-        store
     }
 }
 
@@ -195,22 +163,12 @@ pub(crate) fn archive_file<W: Write, E: Write>(
             same: 0,
             differing: 0,
         },
-        walked: None,
-        failed: None,
     };
-    let looked = look_into(rt, file, &mut archiving);
-    let Archiving {
-        counts,
-        walked,
-        failed,
-        output,
-        ..
-    } = archiving;
-    if let Some(error) = failed {
-        return done_or_told(Err(error), folder, errors);
-    }
-    match found(looked, walked) {
-        Ok(walked) => done_or_told(tell_end(rt, &walked, counts, output), folder, errors),
-        Err(fault) => tell_unopened(rt, file, fault, errors),
+    let walked = walk_jobs(rt, file, &mut archiving);
+    let Archiving { counts, output, .. } = archiving;
+    match walked {
+        Ok(Ok(walked)) => done_or_told(tell_end(rt, &walked, counts, output), folder, errors),
+        Ok(Err(fault)) => tell_unopened(rt, file, fault, errors),
+        Err(error) => done_or_told(Err(error), folder, errors),
     }
 }

@@ -17,6 +17,7 @@ mod copying;
 mod faults;
 mod help;
 mod job_folders;
+mod job_walks;
 mod joining;
 mod listing;
 mod parting;

@@ -2,21 +2,22 @@
 
 ghost use Rattle.std.specs.Prelude.{⊤};
 
-use crate::faults::{found, tell_unopened};
+use crate::faults::tell_unopened;
 use crate::job_folders::{Place, place_at, settle};
+use crate::job_walks::{OnJob, walk_jobs};
 use crate::shelves::{Shelf, Shelved, shelf_at};
 use crate::verifying::{Verdict, differ, judge, tell_others, tell_wrong};
 use command_line::Status;
 use exchanges::{ScriptEnd, Scripted, script};
 use job_archives::{Archive, files_of, flag_script, parts_of, stretch_script};
-use job_checks::{EachJob, JobReport, JobRun, Walked, each_job, job_text};
+use job_checks::{JobReport, JobRun, job_text};
 use ledger::Bureau;
-use ledger_files::{Look, Work, init, look_into, with_bureau};
-use ledger_tables::{Fault, OpenFault};
+use ledger_files::{Work, init, with_bureau};
+use ledger_tables::OpenFault;
 use machine::Meter;
-use sqlite::{Alter, Connection, Unknown};
-use std::alloc::{AllocError, Global};
-use std::io::{ErrorKind, Write};
+use sqlite::{Alter, Unknown};
+use std::alloc::AllocError;
+use std::io::Write;
 use std::{fs, io};
 
 /// Why the commands of a job were not all carried out.
@@ -117,10 +118,6 @@ struct Comparing<'a, W: Write> {
     folder: &'a str,
     output: &'a mut W,
     counts: Counts,
-    /// What came of the walk through the jobs.
-    walked: Option<Result<Walked, OpenFault>>,
-    /// Why the walk was ended, if it was not the bureau's store.
-    failed: Option<io::Error>,
 }
 
 /// The first line in which two records differ, of each.
@@ -190,9 +187,14 @@ impl<W: Write> Comparing<'_, W> {
         write!(self.output, "{customer} {number} differs: ")?;
         tell_apart(&kept, &now, self.output)
     }
+}
 
-    /// Compares a job of the new bureau, or prints what differs there.
-    fn compare_or_tell(&mut self, found: Result<JobRun, JobReport>) -> io::Result<()> {
+impl<W: Write> OnJob for Comparing<'_, W> {
+    fn begin(&mut self) -> io::Result<()> {
+        Ok(())
+    }
+
+    fn take_job(&mut self, found: Result<JobRun, JobReport>) -> io::Result<()> {
         match found {
             Ok(run) => self.compare(&run)?,
             Err(report) => {
@@ -203,39 +205,6 @@ impl<W: Write> Comparing<'_, W> {
         }
         self.output.flush()
     }
-}
-
-impl<W: Write> EachJob for Comparing<'_, W> {
-    ghost takes = { λ old new found. ⊤ };
-
-    fn take(&mut self, found: Result<JobRun, JobReport>) -> Result<(), Fault> {
-        match self.compare_or_tell(found) {
-            Ok(()) => Ok(()),
-            Err(error) => {
-                self.failed = Some(error);
-                Err(Fault::Store)
-            }
-        }
-    }
-}
-
-impl<W: Write> Look for Comparing<'_, W> {
-    ghost looked = { λ old new. ⊤ };
-
-    fn look<S: Alter + Drop>(&mut self, alloc: Global, conn: Connection<S>) -> S {
-        let (walked, store) = each_job(alloc, conn, self);
-        self.walked = Some(walked.map_err(OpenFault::from));
-        store
-    }
-}
-
-/// What came of a restored shelf.
-#[derive(Drop)]
-enum Restored {
-    /// All that is on it was handed in, and compared.
-    Compared(Counts),
-    /// The new file cannot be used.
-    File(OpenFault),
 }
 
 /// Hands in the jobs of a shelf, and prints what is wrong with a bag. Returns how many are wrong.
@@ -268,7 +237,7 @@ fn compare_all<W: Write>(
     folder: &str,
     part: &str,
     output: &mut W,
-) -> io::Result<Restored> {
+) -> io::Result<Result<Counts, OpenFault>> {
     let mut comparing = Comparing {
         rt,
         folder,
@@ -277,22 +246,10 @@ fn compare_all<W: Write>(
             same: 0,
             differing: 0,
         },
-        walked: None,
-        failed: None,
     };
-    let looked = look_into(rt, part, &mut comparing);
-    let Comparing {
-        counts,
-        walked,
-        failed,
-        ..
-    } = comparing;
-    if let Some(error) = failed {
-        return Err(error);
-    }
-    match found(looked, walked) {
-        Ok(_walked) => Ok(Restored::Compared(counts)),
-        Err(fault) => Ok(Restored::File(fault)),
+    match walk_jobs(rt, part, &mut comparing)? {
+        Ok(_walked) => Ok(Ok(comparing.counts)),
+        Err(fault) => Ok(Err(fault)),
     }
 }
 
@@ -324,8 +281,8 @@ fn restore_all<W: Write>(
         Err(fault) => return Ok(Err(fault)),
     };
     let counts = match compare_all(rt, folder, part, output)? {
-        Restored::Compared(counts) => counts,
-        Restored::File(fault) => return Ok(Err(fault)),
+        Ok(counts) => counts,
+        Err(fault) => return Ok(Err(fault)),
     };
     tell_others(&shelf, output)?;
     publish(rt, part, new)?;
