@@ -1,7 +1,7 @@
 -- a job that was run again from its archive alone
-use Rattle.std.specs.Prelude.{ℕ, ◌≡◌, ⊤, List}
+use Rattle.std.specs.Prelude.{ℕ, ◌≡◌, ◌&&◌, ⊤, Bool, List, bytes_eq}
 use Rattle.office.specs.Office.{Entry}
-use Rattle.job_archives.specs.Archives.{archive_of}
+use Rattle.job_archives.specs.Archives.{Files, archive_of}
 use Rattle.job_archives.specs.declared.rerun.Unrun.{Unrun}
 use Rattle.job_archives.specs.declared.rerun.Unrun.TheVariants.{NoMemory, Deck, Record, Job, Other}
 
@@ -9,6 +9,10 @@ use Rattle.job_archives.specs.declared.rerun.Unrun.TheVariants.{NoMemory, Deck, 
 pub record IsRunOf (deck_text record_text : List ℕ) (e : Entry) : Type 0 where
   pub deck : (archive_of e).deck ≡ deck_text
   pub facts : (archive_of e).facts ≡ record_text
+
+-- whether the files of an archive have this deck text and this record
+abbrev pub has_files : Files → List ℕ → List ℕ → Bool
+has_files it deck_text record_text = bytes_eq it.deck deck_text && bytes_eq it.facts record_text
 
 -- of a job that has run otherwise than its archive says: its own archive has another deck text or
 -- another record

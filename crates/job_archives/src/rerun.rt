@@ -3,11 +3,11 @@
 ghost use Rattle.std.specs.Prelude.{◌≡◌, ℕ, List, IfErr, IfOk, true};
 ghost use Rattle.texts.specs.Names.{is_customer, is_number};
 ghost use Rattle.job_archives.specs.{
-  Reruns.{HasRunOtherwise, IsRunOf},
+  Reruns.{HasRunOtherwise, IsRunOf, has_files},
   declared.rerun.Unrun.TheVariants.{NoMemory},
 };
 
-use crate::archives::files_of;
+use crate::archives::{Archive, files_of};
 use crate::record_texts::{
     RecordPart, ToldMachine, flags_in, split_machine, split_name, split_stretches,
 };
@@ -120,6 +120,13 @@ fn run_record(alloc: Global, deck: Deck, record: &[u8]) -> Result<JobRun, Unrun>
     }
 }
 
+/// Whether an archive has this deck text and this record.
+fn has_files(archive: &Archive, deck: &[u8], record: &[u8]) -> bool
+    ensures { result ≡ has_files archive.now deck.now record.now }
+{
+    archive.deck.as_slice() == deck && archive.facts.as_slice() == record
+}
+
 /// Runs a job again from two files of its archive, `deck.text` and `record`, and compares what it
 /// makes with them. By the law `archives_are_whole` no other job has these two files.
 pub fn run_archived(alloc: Global, deck: &[u8], record: &[u8]) -> Result<JobRun, Unrun>
@@ -128,8 +135,9 @@ pub fn run_archived(alloc: Global, deck: &[u8], record: &[u8]) -> Result<JobRun,
 {
     let run = run_record(alloc, deck_of(alloc, deck)?, record)?;
     let archive = files_of(alloc, &run)?;
-    if archive.deck.as_slice() != deck || archive.facts.as_slice() != record {
-        return Err(Unrun::Other(run));
+    if has_files(&archive, deck, record) {
+        Ok(run)
+    } else {
+        Err(Unrun::Other(run))
     }
-    Ok(run)
 }

@@ -2,9 +2,14 @@
 
 ghost use Rattle.std.specs.Prelude.{◌≡◌, All, IfErr, IfOk, true};
 ghost use Rattle.ledger.specs.Standing.{CanBeKept};
-ghost use Rattle.ledger_rows.specs.{Columns.{IsLine}, Pockets.{IsPunched}};
+ghost use Rattle.ledger_rows.specs.{Columns.{HoldsCharacters, IsLine}, Pockets.{IsPunched}};
+ghost use Rattle.machine.specs.Run.{lines_of};
 ghost use Rattle.texts.specs.Names.{is_customer, is_number};
-ghost use Rattle.job_checks.specs.{Jobs.{told_entry}, Outcomes.{IsAsItRan}, Stops.{IfDiffers}};
+ghost use Rattle.job_checks.specs.{
+  Jobs.{entry_of, told_entry},
+  Outcomes.{IsAsItRan},
+  Stops.{IfDiffers},
+};
 
 use crate::again::{Loaded, load, run_again};
 use crate::differences::Stop;
@@ -12,8 +17,9 @@ use crate::reports::{JobReport, Outcome};
 use crate::runs::JobRun;
 use crate::submitted::Numbers;
 use cards::Deck;
-use core_store::Size;
+use core_store::{PlaneCore, Size};
 use ledger_rows::{card_bytes, line_bytes, storage_holds_characters};
+use machine::Parts;
 use office::{Kind, Stretch};
 use std::alloc::{AllocError, Global};
 use std::marker::Model;
@@ -73,8 +79,53 @@ fn lines_hold_characters(lines: &[Line])
     }
 }
 
-/// Runs a told job again.
-fn go_through(alloc: Global, name: JobName<'_>, told: ToldJob) -> Result<JobRun, Stop>
+/// What a machine has punched and printed holds characters, and so does its storage. It is for the
+/// proof, and does nothing else.
+fn machine_holds_characters(machine: &Parts<PlaneCore>)
+    ensures cards { All IsPunched machine.now.works.units.punch.cards }
+    ensures lines { All IsLine (lines_of machine.now) }
+    ensures characters { HoldsCharacters machine.now.works.storage }
+{
+    cards_hold_characters(machine.units.punch.cards.as_slice());
+    lines_hold_characters(machine.units.printer.lines.as_slice());
+    storage_holds_characters(&machine.core);
+}
+
+/// Runs the job of this name again, with these contents, profile and stretches.
+fn go_through(
+    alloc: Global,
+    name: JobName<'_>,
+    numbers: Numbers,
+    deck: Deck,
+    profile: Profile,
+    stretches: Vec<Stretch>,
+) -> Result<JobRun, Stop>
+    requires customer { is_customer name.customer.now ≡ true }
+    requires number { is_number name.number ≡ true }
+    ensures same { IfOk result (λ run. run ≡ entry_of name.entry.customer.now name.entry.number
+        numbers deck profile stretches.items) }
+    ensures other { IfDiffers result (¬ CanBeKept (entry_of name.entry.customer.now
+        name.entry.number numbers deck profile stretches.items).job) }
+{
+    let loaded = load(alloc, numbers.kind, numbers.size, deck)?;
+    let Loaded { deck, loaded, .. } = loaded;
+    let machine = run_again(alloc, loaded, numbers.size, profile, &stretches)?;
+    machine_holds_characters(machine.parts());
+    let customer = String::from_str(alloc, name.customer)?;
+    let run = JobRun::new(
+        customer,
+        name.number,
+        numbers,
+        deck,
+        profile,
+        stretches,
+        machine,
+    );
+    Ok(run)
+}
+
+/// Runs a told job of this name again.
+fn go_through_told(alloc: Global, name: JobName<'_>, told: ToldJob) -> Result<JobRun, Stop>
     requires customer { is_customer name.customer.now ≡ true }
     requires number { is_number name.number ≡ true }
     ensures same { IfOk result (λ run. run
@@ -90,29 +141,13 @@ fn go_through(alloc: Global, name: JobName<'_>, told: ToldJob) -> Result<JobRun,
         held,
         collected,
     } = told;
-    let Loaded { deck, loaded, .. } = load(alloc, kind, size, deck)?;
-    let machine = run_again(alloc, loaded, size, profile, &stretches)?;
-    let parts = machine.parts();
-    cards_hold_characters(&parts.units.punch.cards);
-    lines_hold_characters(&parts.units.printer.lines);
-    storage_holds_characters(&parts.core);
-    let customer = String::from_str(alloc, name.customer)?;
     let numbers = Numbers {
         kind,
         size,
         held,
         collected,
     };
-    let run = JobRun::new(
-        customer,
-        name.number,
-        numbers,
-        deck,
-        profile,
-        stretches,
-        machine,
-    );
-    Ok(run)
+    go_through(alloc, name, numbers, deck, profile, stretches)
 }
 
 /// Runs a job of this name again, which is told and is in no rows: returns the job, or what is told
@@ -129,7 +164,7 @@ pub fn run_told(
     ensures told { IfOk result (λ found. IfErr found (λ report. ¬ IsAsItRan report.outcome)) }
     ensures other { IfOk result (λ found. IfErr found (λ report. ¬ CanBeKept told)) }
 {
-    match go_through(alloc, name, told) {
+    match go_through_told(alloc, name, told) {
         Ok(run) => Ok(Ok(run)),
         Err(Stop::Differs(difference)) => Ok(Err(JobReport {
             customer: Vec::from_slice(alloc, name.customer.as_bytes())?,

@@ -6,7 +6,7 @@ use Rattle.job_checks.proofs.told.cards_hold_characters.Goals as goal
 
 pub loop-at-preserved : goal.loop-at-preserved
 loop-at-preserved c =
-    All-more IsPunched c.args.cards.now c.loop-at.at _ c.loop-at-test.true c.loop-at.invariant c.card_bytes-_bytes.ensures.card
+    All-more IsPunched c.args.cards.now c.loop-at.at _ c.loop-at-test.true c.loop-at.invariant c.card_bytes-bytes.ensures.card
 
 pub returns : goal.returns
 returns c =

@@ -6,7 +6,7 @@ use Rattle.job_checks.proofs.told.lines_hold_characters.Goals as goal
 
 pub loop-at-preserved : goal.loop-at-preserved
 loop-at-preserved c =
-    All-more IsLine c.args.lines.now c.loop-at.at _ c.loop-at-test.true c.loop-at.invariant c.line_bytes-_bytes.ensures.line
+    All-more IsLine c.args.lines.now c.loop-at.at _ c.loop-at-test.true c.loop-at.invariant c.line_bytes-bytes.ensures.line
 
 pub returns : goal.returns
 returns c =
