@@ -129,6 +129,7 @@ fn has_files(archive: &Archive, deck: &[u8], record: &[u8]) -> bool
 
 /// Runs a job again from two files of its archive, `deck.text` and `record`, and compares what it
 /// makes with them. By the law `archives_are_whole` no other job has these two files.
+#[tactic(auto, using(crate::proofs::RerunLemmas::is_run, crate::proofs::RerunLemmas::is_no_run))]
 pub fn run_archived(alloc: Global, deck: &[u8], record: &[u8]) -> Result<JobRun, Unrun>
     ensures run { IfOk result (λ run. IsRunOf deck.now record.now run) }
     ensures other { IfErr result (HasRunOtherwise deck.now record.now) }
