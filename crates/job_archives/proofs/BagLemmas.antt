@@ -1,7 +1,8 @@
 -- Files as they are held, and by their paths and bytes.
 use Rattle.std.proofs.Common.{◌≡◌, ◌∙◌, ℕ, ◌+◌, List, [], ◌∷◌, flat_map, length, map, refl, ap, arith, sym}
 use Rattle.std.specs.List.{sum_by}
-use Rattle.std.proofs.lemmas.List.{flat_map-map, sum_by-cons}
+use Rattle.std.proofs.lemmas.List.Folds.{flat_map-map}
+use Rattle.std.proofs.lemmas.List.Sums.{sum_by-cons}
 use Rattle.job_archives.specs.Archives.{File, files_as}
 use Rattle.job_archives.specs.Bags.{manifest_line, manifest_of, octets_in}
 use Rattle.job_archives.specs.declared.archives.BagFile.{BagFile}

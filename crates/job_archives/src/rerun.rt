@@ -55,7 +55,8 @@ struct ToldRecord<'a> {
 fn read_lines(alloc: Global, text: &str) -> Result<ToldRecord<'_>, Unrun>
     ensures customer { IfOk result (λ told. is_customer told.name.customer.now ≡ true) }
     ensures number { IfOk result (λ told. is_number told.name.number ≡ true) }
-    ensures none { (deck record : List ℕ) → IfErr result (HasRunOtherwise deck record) }
+    ensures none { (deck_text record_text : List ℕ)
+        → IfErr result (HasRunOtherwise deck_text record_text) }
 {
     let Some((name, rest)) = split_name(text) else {
         return Err(Unrun::Record(RecordPart::Name));
@@ -80,7 +81,8 @@ fn read_lines(alloc: Global, text: &str) -> Result<ToldRecord<'_>, Unrun>
 
 /// The deck of a text.
 fn deck_of(alloc: Global, text: &[u8]) -> Result<Deck, Unrun>
-    ensures none { (deck record : List ℕ) → IfErr result (HasRunOtherwise deck record) }
+    ensures none { (deck_text record_text : List ℕ)
+        → IfErr result (HasRunOtherwise deck_text record_text) }
 {
     match read_text(alloc, text) {
         Ok(deck) => Ok(deck),
@@ -92,10 +94,11 @@ fn deck_of(alloc: Global, text: &[u8]) -> Result<Deck, Unrun>
 }
 
 /// Runs the job again that a record and a deck tell.
-fn run_record(alloc: Global, deck: Deck, record: &[u8]) -> Result<JobRun, Unrun>
-    ensures none { (deck record : List ℕ) → IfErr result (HasRunOtherwise deck record) }
+fn run_record(alloc: Global, deck: Deck, facts: &[u8]) -> Result<JobRun, Unrun>
+    ensures none { (deck_text record_text : List ℕ)
+        → IfErr result (HasRunOtherwise deck_text record_text) }
 {
-    let Ok(text) = str::from_utf8(record) else {
+    let Ok(text) = str::from_utf8(facts) else {
         return Err(Unrun::Record(RecordPart::Name));
     };
     let ToldRecord {
@@ -121,22 +124,22 @@ fn run_record(alloc: Global, deck: Deck, record: &[u8]) -> Result<JobRun, Unrun>
 }
 
 /// Whether an archive has this deck text and this record.
-fn has_files(archive: &Archive, deck: &[u8], record: &[u8]) -> bool
-    ensures { result ≡ has_files archive.now deck.now record.now }
+fn has_files(archive: &Archive, deck: &[u8], facts: &[u8]) -> bool
+    ensures { result ≡ has_files archive.now deck.now facts.now }
 {
-    archive.deck.as_slice() == deck && archive.facts.as_slice() == record
+    archive.deck.as_slice() == deck && archive.facts.as_slice() == facts
 }
 
 /// Runs a job again from two files of its archive, `deck.text` and `record`, and compares what it
 /// makes with them. By the law `archives_are_whole` no other job has these two files.
 #[tactic(auto, using(crate::proofs::RerunLemmas::is_run, crate::proofs::RerunLemmas::is_no_run))]
-pub fn run_archived(alloc: Global, deck: &[u8], record: &[u8]) -> Result<JobRun, Unrun>
-    ensures run { IfOk result (λ run. IsRunOf deck.now record.now run) }
-    ensures other { IfErr result (HasRunOtherwise deck.now record.now) }
+pub fn run_archived(alloc: Global, deck: &[u8], facts: &[u8]) -> Result<JobRun, Unrun>
+    ensures run { IfOk result (λ run. IsRunOf deck.now facts.now run) }
+    ensures other { IfErr result (HasRunOtherwise deck.now facts.now) }
 {
-    let run = run_record(alloc, deck_of(alloc, deck)?, record)?;
+    let run = run_record(alloc, deck_of(alloc, deck)?, facts)?;
     let archive = files_of(alloc, &run)?;
-    if has_files(&archive, deck, record) {
+    if has_files(&archive, deck, facts) {
         Ok(run)
     } else {
         Err(Unrun::Other(run))
