@@ -1,6 +1,7 @@
 -- Files as they are held, and by their paths and bytes.
-use Rattle.std.proofs.Common.{◌≡◌, ◌∙◌, ℕ, ◌+◌, List, [], ◌∷◌, flat_map, length, map, refl, ap, arith, sym}
+use Rattle.std.proofs.Common.{◌≡◌, ◌∙◌, ℕ, ◌+◌, ◌<◌, drop, List, [], ◌∷◌, flat_map, length, map, refl, ap, arith, sym}
 use Rattle.std.specs.List.{sum_by}
+use Rattle.std.proofs.Math.ListN.{drop_of_length-le}
 use Rattle.std.proofs.lemmas.List.Folds.{flat_map-map}
 use Rattle.std.proofs.lemmas.List.Sums.{sum_by-cons}
 use Rattle.job_archives.specs.Archives.{File, files_as}
@@ -15,3 +16,7 @@ same_octets [] = refl
 same_octets (x ∷ files) =
     sum_by-cons (λ (file : File). length file.1) (x.path.now, x.bytes.now) (files_as files)
     ∙ (ap (λ n. length x.bytes.now + n) (same_octets files) ∙ sym (sum_by-cons (λ (file : BagFile). length file.bytes.now) x files))
+
+-- behind all of fewer bytes there is nothing
+pub none_behind : (n : ℕ) (text : List ℕ) → length text < n → [] ≡ drop n text
+none_behind n text short = sym (drop_of_length-le text (omega (arith, short)))

@@ -7,7 +7,7 @@ use Rattle.texts.specs.Digests.{digest_of}
 use Rattle.job_archives.specs.Archives.{File, Files, archive_of, payload_of}
 
 -- `bagit.txt`: the declaration of a bag
-abbrev pub declaration : List ℕ
+unfoldable pub declaration : List ℕ
 declaration = codes "BagIt-Version: 1.0\nTag-File-Character-Encoding: UTF-8\n"
 
 -- the line of a file in a manifest: the digest of its bytes, and its path, as `sha256sum` writes it
@@ -19,7 +19,7 @@ abbrev pub manifest_of : List File → List ℕ
 manifest_of = flat_map (λ file. manifest_line file.0 file.1)
 
 -- a line of `bag-info.txt`
-abbrev pub tag_line : List ℕ → List ℕ → List ℕ
+unfoldable pub tag_line : List ℕ → List ℕ → List ℕ
 tag_line label value = label ++ codes ": " ++ value ++ codes "\n"
 
 -- how many bytes files have together

@@ -42,7 +42,7 @@ stretch_line s = codes "stretch " ++ switches.text_of s.switches ++ codes " " ++
     ++ codes "\n"
 
 -- the line of a file: its name, and the digest of its bytes, as `sha256sum --tag` writes it
-abbrev pub digest_line : List ℕ → List ℕ → List ℕ
+unfoldable pub digest_line : List ℕ → List ℕ → List ℕ
 digest_line name bytes = codes "SHA256 (" ++ name ++ codes ") = " ++ digest_of bytes ++ codes "\n"
 
 -- the lines of a job's name

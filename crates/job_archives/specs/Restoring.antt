@@ -9,7 +9,7 @@ use Rattle.job_archives.specs.Records.{kind_word}
 use Rattle.texts.specs.Switches as switches
 
 -- a command on the job of an entry: its verb, the customer and the number
-abbrev pub on_job : List ℕ → Entry → List ℕ
+unfoldable pub on_job : List ℕ → Entry → List ℕ
 on_job verb e = verb ++ codes " " ++ e.customer ++ codes " " ++ decimal e.number
 
 -- the submission of the deck, with the switches of the first stretch

@@ -1,6 +1,6 @@
 //! The bag of a job's archive (BagIt 1.0, RFC 8493).
 
-ghost use Rattle.std.specs.Prelude.{◌≡◌, ◌++◌, codes, decimal, drop, IfOk, IfSome, OnOk};
+ghost use Rattle.std.specs.Prelude.{◌≡◌, ◌<◌, ◌==◌, ◌++◌, codes, decimal, drop, length, position, IfOk, IfSome, OnOk};
 ghost use Rattle.job_archives.specs.{
   Archives.{files_as},
   Bags.{agent_line, are_tags, bag_files, bag_of, declaration, is_agent_line, is_info, is_line, is_same, manifest_line, manifest_of, octets_in, oxum_of, tag_files, tag_line, told_lines},
@@ -42,6 +42,7 @@ impl Model for Bag {
 }
 
 /// `bagit.txt`.
+#[tactic(auto, unfolding(crate::specs::Bags::declaration))]
 fn declaration() -> &'static [u8]
     ensures { result.now ≡ declaration }
 {
@@ -84,6 +85,7 @@ fn octets_in(files: &[BagFile<'_>]) -> Option<usize>
 }
 
 /// Adds a line of `bag-info.txt`.
+#[tactic(auto, unfolding(crate::specs::Bags::tag_line))]
 fn push_tag(out: &mut Vec<u8>, label: &str, value: &[u8]) -> Result<(), AllocError>
     ensures { OnOk result (out.new.items ≡ out.old.items ++ tag_line label.now value.now) }
 {
@@ -171,11 +173,19 @@ pub fn bag_of(alloc: Global, agent: &str, run: &JobRun) -> Result<Bag, AllocErro
     })
 }
 
+/// Where a text has its first line feed.
+fn line_end(text: &[u8]) -> Option<usize>
+    ensures place { result ≡ position (λ byte. byte == 10) text.now }
+    ensures within { IfSome result (λ place. place < length text.now) }
+{
+    text.iter().position(|byte| *byte == b'\n')
+}
+
 /// Whether bytes are one line.
 fn is_line(text: &[u8]) -> bool
     ensures { result ≡ is_line text.now }
 {
-    match text.iter().position(|byte| *byte == b'\n') {
+    match line_end(text) {
         Some(place) => place + 1 == text.len(),
         None => false,
     }
@@ -199,7 +209,11 @@ fn is_info(told: &[u8], text: &[u8]) -> bool
 fn behind_digest(text: &[u8]) -> &[u8]
     ensures { result.now ≡ drop 64 text.now }
 {
-    if text.len() < 64 { &[] } else { &text[64..] }
+    if text.len() < 64 {
+        return &[];
+    }
+    let (_digest, behind) = text.split_at(64);
+    behind
 }
 
 /// Whether a text is this tag manifest, whatever the digest of `bag-info.txt` is.

@@ -61,6 +61,7 @@ pub(crate) fn push_pocket(out: &mut Vec<u8>, place: usize, pocket: Pocket) -> Re
 }
 
 /// Adds the line of a file: its name, and the digest of its bytes.
+#[tactic(auto, unfolding(crate::specs::Records::digest_line))]
 pub(crate) fn push_file(
     alloc: Global,
     out: &mut Vec<u8>,

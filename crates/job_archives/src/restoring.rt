@@ -17,6 +17,7 @@ const SLICE: u32 = 2_000;
 const MOST_SLICES: u32 = 100_000;
 
 /// Adds a verb and the job's name.
+#[tactic(auto, unfolding(crate::specs::Restoring::on_job))]
 fn push_on_job(out: &mut Vec<u8>, verb: &str, run: &JobRun) -> Result<(), AllocError>
     ensures { OnOk result (out.new.items ≡ out.old.items ++ on_job verb.now run.now) }
 {
