@@ -228,16 +228,16 @@ impl Bag {
     pub fn files(&self) -> [BagFile<'_>; 10]
         ensures { files_as result ≡ bag_files self.now }
     {
-        let payload = &self.payload;
+        let [punched, cards, deck, lines, loaded, facts] = self.payload.payload();
         [
             file("bag-info.txt", &self.info),
             file("bagit.txt", declaration()),
-            file("data/cards.punch", &payload.punched),
-            file("data/cards.text", &payload.cards),
-            file("data/deck.text", &payload.deck),
-            file("data/lines.text", &payload.lines),
-            file("data/loaded.text", &payload.loaded),
-            file("data/record", &payload.facts),
+            punched,
+            cards,
+            deck,
+            lines,
+            loaded,
+            facts,
             file("manifest-sha256.txt", &self.manifest),
             file("tagmanifest-sha256.txt", &self.tags),
         ]

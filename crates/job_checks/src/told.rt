@@ -111,16 +111,7 @@ fn go_through(
     let Loaded { deck, loaded, .. } = loaded;
     let machine = run_again(alloc, loaded, numbers.size, profile, &stretches)?;
     machine_holds_characters(machine.parts());
-    let customer = String::from_str(alloc, name.customer)?;
-    let run = JobRun::new(
-        customer,
-        name.number,
-        numbers,
-        deck,
-        profile,
-        stretches,
-        machine,
-    );
+    let run = JobRun::of(alloc, name, numbers, deck, profile, stretches, machine)?;
     Ok(run)
 }
 

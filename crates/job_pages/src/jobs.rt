@@ -1,13 +1,15 @@
 //! A source that was assembled and run.
 
 ghost use Rattle.std.specs.Prelude.{◌≡◌, ◌<◌, ◌≤◌, length, map, IfErr, IfOk};
-ghost use Rattle.cards.specs.Decks.{largest_deck};
-ghost use Rattle.autocoder_layout.specs.Source.{source_of};
-ghost use Rattle.autocoder.specs.Programs.{IsFaultless, IsProgramOf};
-ghost use Rattle.autocoder_listings.specs.Listing.{listing_with_code_for};
-ghost use Rattle.loader.specs.Decks.{runnable_deck};
-ghost use Rattle.machine.specs.Run.{lines_of};
-ghost use Rattle.units.specs.{Listing.{rendered}, declared.punch.Punched.{Punched}};
+ghost use Rattle.{
+  cards.specs.Decks.{largest_deck},
+  autocoder_layout.specs.Source.{source_of},
+  autocoder.specs.Programs.{IsFaultless, IsProgramOf},
+  autocoder_listings.specs.Listing.{listing_with_code_for},
+  loader.specs.Decks.{runnable_deck},
+  machine.specs.Run.{lines_of},
+  units.specs.{Listing.{rendered}, declared.punch.Punched.{Punched}},
+};
 ghost use Rattle.job_pages.specs.Jobs.{Hinders, IsJobOf, cards_punched, ran};
 
 use crate::pages::JobPageError;

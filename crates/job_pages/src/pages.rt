@@ -1,12 +1,14 @@
 //! The page of a job.
 
 ghost use Rattle.std.specs.Prelude.{◌≡◌, ◌++◌, ◌<◌, ◌≤◌, length, IfErr, IfOk, OnOk};
-ghost use Rattle.cards.specs.Decks.{largest_deck};
-ghost use Rattle.autocoder_layout.specs.Source.{source_of};
-ghost use Rattle.autocoder.specs.Programs.{IsFaultless};
-ghost use Rattle.loader.specs.Decks.{runnable_deck};
-ghost use Rattle.machine.specs.Run.{lines_of};
-ghost use Rattle.units.specs.Listing.{rendered};
+ghost use Rattle.{
+  cards.specs.Decks.{largest_deck},
+  autocoder_layout.specs.Source.{source_of},
+  autocoder.specs.Programs.{IsFaultless},
+  loader.specs.Decks.{runnable_deck},
+  machine.specs.Run.{lines_of},
+  units.specs.Listing.{rendered},
+};
 ghost use Rattle.job_pages.specs.{
   Facts.{facts},
   Jobs.{Hinders, cards_punched},

@@ -80,9 +80,9 @@ WantsWork found other = ⊥
 
 -- the task of `watch`: five seconds between two requests for the queue, where no others are given
 abbrev pub WantsWatch : List Row → Task → Type 0
-WantsWatch found (Watch port rounds pause) = IsPortIn found port
-    × ReadsIf (IsUpTo 999999999) (first_of (codes "rounds") found) rounds
-    × ReadsOr (IsUpTo 3600) 5 (first_of (codes "pause") found) pause
+WantsWatch found (Watch it) = IsPortIn found it.port
+    × ReadsIf (IsUpTo 999999999) (first_of (codes "rounds") found) it.rounds
+    × ReadsOr (IsUpTo 3600) 5 (first_of (codes "pause") found) it.pause
 WantsWatch found other = ⊥
 
 -- the task of a subcommand, by what was found after its name

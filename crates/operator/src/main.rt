@@ -98,11 +98,7 @@ fn carry_out<W: Write, E: Write>(
         Task::Verify { folder } => verify_shelf(rt, folder, output, errors),
         Task::Restore { folder, new } => restore_shelf(rt, folder, new, output, errors),
         Task::Work { port, rounds } => run_queue(rt, port, rounds, output, errors),
-        Task::Watch {
-            port,
-            rounds,
-            pause,
-        } => watch_queue(rt, port, rounds, pause, output, errors),
+        Task::Watch(watching) => watch_queue(rt, watching, output, errors),
     }
 }
 

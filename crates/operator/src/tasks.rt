@@ -25,6 +25,17 @@ pub struct Rounds {
     pub pause: u32,
 }
 
+/// How a queue is watched.
+#[derive(Clone, Copy)]
+pub struct Watching {
+    /// The bureau's port on 127.0.0.1.
+    pub port: u16,
+    /// How often the queue is asked for; without a number on and on.
+    pub rounds: Option<u32>,
+    /// For how many seconds to wait before it is asked for again, 1 to 3,600.
+    pub pause: u32,
+}
+
 /// What the arguments ask for.
 #[derive(Drop)]
 pub enum Task<'a> {
@@ -96,14 +107,7 @@ pub enum Task<'a> {
         rounds: Rounds,
     },
     /// Tell what comes into the queue of a bureau that is served, and what leaves it.
-    Watch {
-        /// Its port on 127.0.0.1.
-        port: u16,
-        /// How often the queue is asked for; without a number on and on.
-        rounds: Option<u32>,
-        /// For how many seconds to wait before it is asked for again, 1 to 3,600.
-        pause: u32,
-    },
+    Watch(Watching),
 }
 
 /// What is said of a text that is no port.
@@ -219,14 +223,11 @@ fn work_task<'a>(found: &Found<'a>) -> Result<Task<'a>, Mistake<'a>>
 fn watch_task<'a>(found: &Found<'a>) -> Result<Task<'a>, Mistake<'a>>
     ensures { IfOk result (WantsWatch (given found.now)) }
 {
-    let port = port_in(found)?;
-    let rounds = up_to_if(found, "rounds", 999_999_999)?;
-    let pause = up_to_or(found, "pause", 3_600, 5)?;
-    Ok(Task::Watch {
-        port,
-        rounds,
-        pause,
-    })
+    Ok(Task::Watch(Watching {
+        port: port_in(found)?,
+        rounds: up_to_if(found, "rounds", 999_999_999)?,
+        pause: up_to_or(found, "pause", 3_600, 5)?,
+    }))
 }
 
 /// The task of a subcommand, by what clap found after its name.
