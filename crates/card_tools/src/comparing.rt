@@ -37,7 +37,7 @@ pub fn compare(
     push_only(&mut text, b" only in the second deck", second, first.len())?;
     let only = first.len().saturating_sub(second.len()) + second.len().saturating_sub(first.len());
     let differing = among + only;
-    push_sum(&mut text, first.len(), second.len(), differing)?;
+    push_sum(&mut text, (first.len(), second.len()), differing)?;
     Ok(Comparison { text, differing })
 }
 

@@ -1,7 +1,7 @@
 //! The commands of scripts that hand an archived job in again.
 
 ghost use Rattle.std.specs.Prelude.{◌≡◌, ◌+◌, ◌/◌, ◌<◌, ◌++◌, IfOk, OnOk};
-ghost use Rattle.job_archives.specs.Restoring.{beginning, flag_script, if_set, on_job, rest_slice, slice, slices, slices_in, start, stretch_script, submission};
+ghost use Rattle.job_archives.specs.Restoring.{flag_script, if_set, on_job, rest_slice, slice, slices, slices_in, start, stretch_script, submission};
 
 use crate::records::kind_word;
 use cards::write_text;
@@ -95,22 +95,6 @@ fn push_rest(out: &mut Vec<u8>, run: &JobRun, stretch: Stretch) -> Result<(), Al
     push_slice(out, run, rest)
 }
 
-/// Adds the command that begins a stretch, by its place.
-fn push_beginning(
-    alloc: Global,
-    out: &mut Vec<u8>,
-    run: &JobRun,
-    at: usize,
-    stretch: Stretch,
-) -> Result<(), AllocError>
-    ensures { OnOk result (out.new.items ≡ out.old.items ++ beginning run.now at stretch) }
-{
-    if at == 0 {
-        return push_submission(alloc, out, run, stretch);
-    }
-    push_start(out, run, stretch)
-}
-
 /// How many slices of the most instructions stand in a part of the script of a stretch.
 fn slices_in(stretch: Stretch, part: u32) -> u32
     requires { part < 10000 }
@@ -147,7 +131,11 @@ pub fn stretch_script(
 {
     let mut out = Vec::new(alloc);
     if part == 0 {
-        push_beginning(alloc, &mut out, run, at, stretch)?;
+        if at == 0 {
+            push_submission(alloc, &mut out, run, stretch)?;
+        } else {
+            push_start(&mut out, run, stretch)?;
+        }
         push_rest(&mut out, run, stretch)?;
     }
     push_slices(&mut out, run, slices_in(stretch, part))?;
