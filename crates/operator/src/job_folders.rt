@@ -84,7 +84,7 @@ fn fill(rt: &HostRuntime, path: &str, bag: &Bag) -> io::Result<()> {
 }
 
 /// Whether what is at a path is a folder.
-fn is_folder(rt: &HostRuntime, path: &str) -> io::Result<bool> {
+pub(crate) fn is_folder(rt: &HostRuntime, path: &str) -> io::Result<bool> {
     match place_at(rt, path)? {
         Place::Folder => Ok(true),
         Place::Nothing | Place::Other => Ok(false),

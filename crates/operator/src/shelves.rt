@@ -1,6 +1,6 @@
 //! A shelf: the folders of archived jobs, `CUSTOMER/NUMBER`.
 
-use crate::job_folders::{Place, place_at};
+use crate::job_folders::is_folder;
 use std::alloc::AllocError;
 use std::io::ErrorKind;
 use std::{fs, io};
@@ -41,14 +41,6 @@ fn names_in(rt: &HostRuntime, path: &str) -> io::Result<Vec<String>> {
     }
     names.sort()?;
     Ok(names)
-}
-
-/// Whether there is a folder at a path.
-fn is_folder(rt: &HostRuntime, path: &str) -> io::Result<bool> {
-    match place_at(rt, path)? {
-        Place::Folder => Ok(true),
-        Place::Nothing | Place::Other => Ok(false),
-    }
 }
 
 /// The number of a job whose folder has this name.
