@@ -37,7 +37,7 @@ pub fn compare(
     push_only(&mut text, b" only in the second deck", second, first.len())?;
     let only = first.len().saturating_sub(second.len()) + second.len().saturating_sub(first.len());
     let differing = among + only;
-    push_sum(&mut text, (first.len(), second.len()), differing)?;
+    push_sum(&mut text, first.len(), second.len(), differing)?;
     Ok(Comparison { text, differing })
 }
 
@@ -156,13 +156,18 @@ fn differ_words(differing: usize) -> &'static [u8]
 }
 
 /// Adds the last line.
-fn push_sum(text: &mut Vec<u8>, counts: (usize, usize), differing: usize) -> Result<(), AllocError>
-    ensures { OnOk result (text.new.items ≡ text.old.items ++ (codes "cards " ++ decimal counts.0
-        ++ codes " and " ++ decimal counts.1 ++ codes ", " ++ decimal differing
+fn push_sum(
+    text: &mut Vec<u8>,
+    first: usize,
+    second: usize,
+    differing: usize,
+) -> Result<(), AllocError>
+    ensures { OnOk result (text.new.items ≡ text.old.items ++ (codes "cards " ++ decimal first
+        ++ codes " and " ++ decimal second ++ codes ", " ++ decimal differing
         ++ (if differing == 1 then codes " differs" else codes " differ") ++ 10 ∷ [])) }
 {
-    push_number_between(text, b"cards ", counts.0, b" and ")?;
-    push_decimal(text, counts.1)?;
+    push_number_between(text, b"cards ", first, b" and ")?;
+    push_decimal(text, second)?;
     push_number_between(text, b", ", differing, differ_words(differing))?;
     text.push(b'\n')?;
     Ok(())

@@ -5,15 +5,20 @@ use crate::undone::Undone;
 use card_tools::{ListOptions, compare, list};
 use command_line::Status;
 use std::io::Write;
+use workbench_arguments::DeckListing;
 
 /// Prints the cards of a deck.
 pub(crate) fn list_deck<W: Write, E: Write>(
     process: &mut Process<W, E>,
-    path: &str,
-    options: ListOptions,
+    listing: DeckListing<'_>,
 ) -> Result<Status, Undone> {
-    let images = process.images_at(path)?;
-    let text = list(process.alloc(), &images, options)?;
+    let DeckListing {
+        deck,
+        ruler,
+        punches,
+    } = listing;
+    let images = process.images_at(deck)?;
+    let text = list(process.alloc(), &images, ListOptions { ruler, punches })?;
     process.print(&text, Status::Done)
 }
 

@@ -42,7 +42,6 @@ use crate::punching::punch_text;
 use crate::sources::{Showing, show_source};
 use crate::talking::talk;
 use crate::undone::Undone;
-use card_tools::ListOptions;
 use command_line::{Mistake, Status, Unfailing, exit_code, show_text, tell_mistake};
 use std::io::Write;
 use std::process::ExitCode;
@@ -62,14 +61,7 @@ fn work<W: Write, E: Write>(
     match task {
         Task::Show(text) => Ok(show_text(text, &mut process.output, &mut process.errors)?),
         Task::Punch(punching) => punch_text(process, punching),
-        Task::List {
-            deck,
-            ruler,
-            punches,
-        } => {
-            let (ruler, punches) = (*ruler, *punches);
-            list_deck(process, deck, ListOptions { ruler, punches })
-        },
+        Task::List(listing) => list_deck(process, *listing),
         Task::Compare { one, other } => compare_decks(process, one, other),
         Task::Number(numbering) => number_deck(process, *numbering),
         Task::CheckNumbers { deck } => check_numbers(process, deck),

@@ -71,8 +71,9 @@ WantsIntake found other = ⊥
 
 -- the task of `list`
 abbrev pub WantsList : List Row → Task → Type 0
-WantsList found (ListCards deck ruler punches) = HasArgument (codes "DECK") found deck.now
-    × (ruler ≡ has_flag (codes "ruler") found) × (punches ≡ has_flag (codes "punches") found)
+WantsList found (ListCards it) = HasArgument (codes "DECK") found it.deck.now
+    × (it.ruler ≡ has_flag (codes "ruler") found)
+    × (it.punches ≡ has_flag (codes "punches") found)
 WantsList found other = ⊥
 
 -- the task of `compare`

@@ -18,6 +18,9 @@ use core_store::Size;
 use texts::{size_of, switches_of};
 use units::Switches;
 
+/// What an argument gives, or what is said of it.
+type Given<T> = Result<T, Mistake<'static>>;
+
 /// The size of storage in SIZE.
 fn size_in(found: &Found<'_>) -> Result<Size, Mistake<'static>>
     ensures { IfOk result (λ size.
@@ -57,11 +60,7 @@ fn count(text: &str, complaint: &'static str) -> Result<u32, Mistake<'static>>
 }
 
 /// The number of an option, if it is given. Of another text this is said.
-fn number_in(
-    found: &Found<'_>,
-    name: &str,
-    complaint: &'static str,
-) -> Result<Option<u32>, Mistake<'static>>
+fn number_in(found: &Found<'_>, name: &str, complaint: &'static str) -> Given<Option<u32>>
     ensures { IfOk result (λ number. GivesNumber name.now (given found.now) number) }
 {
     match found.value(name) {
@@ -71,11 +70,7 @@ fn number_in(
 }
 
 /// The number of an option that may be 0, if it is given. Of another text this is said.
-fn count_in(
-    found: &Found<'_>,
-    name: &str,
-    complaint: &'static str,
-) -> Result<Option<u32>, Mistake<'static>>
+fn count_in(found: &Found<'_>, name: &str, complaint: &'static str) -> Given<Option<u32>>
     ensures { IfOk result (λ count. GivesCount name.now (given found.now) count) }
 {
     match found.value(name) {

@@ -18,5 +18,5 @@ mod values;
 pub use help::VERSION;
 pub use subcommands::{Subcommand, WORKBENCH};
 pub use tasks::{
-    Cutting, Dumping, Ends, Intake, Numbering, Punching, Setup, Task, Tracing, task_of,
+    Cutting, DeckListing, Dumping, Ends, Intake, Numbering, Punching, Setup, Task, Tracing, task_of,
 };

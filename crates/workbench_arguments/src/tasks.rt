@@ -67,6 +67,17 @@ pub struct Intake<'a> {
     pub named: Option<Signs>,
 }
 
+/// How the cards of a deck are printed.
+#[derive(Clone, Copy)]
+pub struct DeckListing<'a> {
+    /// The path of the deck.
+    pub deck: &'a str,
+    /// Whether a ruler of the columns stands above them.
+    pub ruler: bool,
+    /// Whether the punches of columns that are no characters are printed.
+    pub punches: bool,
+}
+
 /// How the cards of a deck are numbered.
 #[derive(Clone, Copy)]
 pub struct Numbering<'a> {
@@ -142,14 +153,7 @@ pub enum Task<'a> {
     /// Take a text as a deck.
     Punch(Punching<'a>),
     /// Print the cards of a deck.
-    List {
-        /// The path of the deck.
-        deck: &'a str,
-        /// Whether a ruler stands over the cards.
-        ruler: bool,
-        /// Whether the punches stand under each card.
-        punches: bool,
-    },
+    List(DeckListing<'a>),
     /// Print the cards in which two decks differ.
     Compare {
         /// The path of the first deck.
@@ -349,11 +353,11 @@ fn intake_task<'a>(alloc: Global, found: &Found<'a>) -> Result<Task<'a>, Mistake
 fn list_task<'a>(found: &Found<'a>) -> Result<Task<'a>, Mistake<'static>>
     ensures { IfOk result (WantsList (given found.now)) }
 {
-    Ok(Task::List {
+    Ok(Task::List(DeckListing {
         deck: found.needed("DECK")?,
         ruler: found.has_flag("ruler"),
         punches: found.has_flag("punches"),
-    })
+    }))
 }
 
 /// The task of a subcommand `compare`.
