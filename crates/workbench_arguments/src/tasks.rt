@@ -72,9 +72,9 @@ pub struct Intake<'a> {
 pub struct DeckListing<'a> {
     /// The path of the deck.
     pub deck: &'a str,
-    /// Whether a ruler of the columns stands above them.
+    /// Whether a ruler stands over the cards.
     pub ruler: bool,
-    /// Whether the punches of columns that are no characters are printed.
+    /// Whether the punches stand under each card.
     pub punches: bool,
 }
 
