@@ -17,7 +17,7 @@ use Rattle.ledger_tables.specs.Tables.{job_row}
 use Rattle.ledger.specs.Standing.{named, CanBeKept}
 use Rattle.job_checks.specs.Again.{HasResumed, IsLoading}
 use Rattle.job_checks.specs.Jobs.{HasComeTo, HasRunAs, IsNameOf, entry_of, numbers_of, row_of}
-use Rattle.job_checks.specs.Kept.{HasMachine, IsKept, IsNamed, rows_of_stretches}
+use Rattle.job_checks.specs.Kept.{HasMachine, IsNamed, rows_of_stretches}
 use Rattle.job_checks.specs.Tables.{TableRows, rows_of}
 use Rattle.job_checks.specs.declared.submitted.Numbers.{Numbers}
 

@@ -1,4 +1,4 @@
-use Rattle.std.proofs.Common.{ℕ, List, All, sym, subst}
+use Rattle.std.proofs.Common.{List, All, sym, subst}
 use Rattle.cards.specs.declared.decks.Card.{Card}
 use Rattle.machine.specs.Run.{State, lines_of, loaded}
 use Rattle.ledger_rows.specs.Columns.{HoldsCharacters, IsLine}
@@ -10,8 +10,8 @@ use Rattle.job_checks.specs.Jobs.{HasComeTo, entry_of}
 use Rattle.job_checks.proofs.JobLemmas.{come_to}
 use Rattle.job_checks.proofs.told.go_through.Goals as goal
 
-pub new-run-requires : goal.new-run-requires
-new-run-requires c =
+pub of-requires : goal.of-requires
+of-requires c =
     let loading = c.in_ok-loaded.ensures.loading in
     let holds = c.machine_holds_characters.ensures in
     let customer = c.args.name.customer.now in
@@ -27,5 +27,4 @@ new-run-requires c =
     (subst (λ (s : State). All IsLine (lines_of s)) same holds.lines)
     (subst (λ (s : State). HoldsCharacters s.works.storage) same holds.characters)
     (record { customer = c.requires.customer; number = c.requires.number }) in
-    subst (λ (who : List ℕ). HasComeTo (entry_of who number numbers c.in_ok-loaded.loaded.deck profile stretches) m) (sym c.in_ok-customer.ensures.ok)
-    (subst (λ (deck : List Card). HasComeTo (entry_of customer number numbers deck profile stretches) m) (sym c.in_ok-loaded.ensures.same) came)
+    subst (λ (deck : List Card). HasComeTo (entry_of customer number numbers deck profile stretches) m) (sym c.in_ok-loaded.ensures.same) came
