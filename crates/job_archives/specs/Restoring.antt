@@ -12,11 +12,19 @@ use Rattle.texts.specs.Switches as switches
 unfoldable pub on_job : List ℕ → Entry → List ℕ
 on_job verb e = verb ++ codes " " ++ e.customer ++ codes " " ++ decimal e.number
 
--- the submission of the deck, with the switches of the first stretch
+-- the kind, the size and the switches with which a deck is handed in
+unfoldable pub setup : Entry → Stretch → List ℕ
+setup e s = kind_word e.job.kind ++ codes " " ++ decimal (positions_of e.job.size) ++ codes " "
+    ++ switches.text_of s.switches
+
+-- the line of a submission, with the switches of the first stretch
+unfoldable pub submission_line : Entry → Stretch → List ℕ
+submission_line e s = on_job (codes "submit") e ++ codes " " ++ setup e s ++ codes " "
+    ++ decimal (length e.job.deck) ++ codes "\n"
+
+-- the submission of the deck: its line, and the cards
 unfoldable pub submission : Entry → Stretch → List ℕ
-submission e s = on_job (codes "submit") e ++ codes " " ++ kind_word e.job.kind ++ codes " "
-    ++ decimal (positions_of e.job.size) ++ codes " " ++ switches.text_of s.switches ++ codes " "
-    ++ decimal (length e.job.deck) ++ codes "\n" ++ text_of e.job.deck
+submission e s = submission_line e s ++ text_of e.job.deck
 
 -- the start of another stretch
 unfoldable pub start : Entry → Stretch → List ℕ

@@ -1,7 +1,7 @@
 //! The commands of scripts that hand an archived job in again.
 
 ghost use Rattle.std.specs.Prelude.{◌≡◌, ◌+◌, ◌/◌, ◌<◌, ◌++◌, IfOk, OnOk};
-ghost use Rattle.job_archives.specs.Restoring.{flag_script, if_set, on_job, rest_slice, slice, slices, slices_in, start, stretch_script, submission};
+ghost use Rattle.job_archives.specs.Restoring.{flag_script, if_set, on_job, rest_slice, setup, slice, slices, slices_in, start, stretch_script, submission, submission_line};
 
 use crate::records::kind_word;
 use cards::write_text;
@@ -28,6 +28,35 @@ fn push_on_job(out: &mut Vec<u8>, verb: &str, run: &JobRun) -> Result<(), AllocE
     push_decimal(out, run.number() as usize)
 }
 
+/// Adds the kind, the size and the switches with which a deck is handed in.
+#[tactic(auto, unfolding(crate::specs::Restoring::setup))]
+fn push_setup(out: &mut Vec<u8>, run: &JobRun, stretch: Stretch) -> Result<(), AllocError>
+    ensures { OnOk result (out.new.items ≡ out.old.items ++ setup run.now stretch) }
+{
+    out.extend_from_slice(kind_word(run.kind()).as_bytes())?;
+    out.extend_from_slice(b" ")?;
+    push_decimal(out, run.size().positions() as usize)?;
+    out.extend_from_slice(b" ")?;
+    push_switches(out, stretch.switches)
+}
+
+/// Adds the line of the submission.
+#[tactic(auto, unfolding(crate::specs::Restoring::submission_line))]
+fn push_submission_line(
+    out: &mut Vec<u8>,
+    run: &JobRun,
+    stretch: Stretch,
+) -> Result<(), AllocError>
+    ensures { OnOk result (out.new.items ≡ out.old.items ++ submission_line run.now stretch) }
+{
+    push_on_job(out, "submit", run)?;
+    out.extend_from_slice(b" ")?;
+    push_setup(out, run, stretch)?;
+    out.extend_from_slice(b" ")?;
+    push_decimal(out, run.deck().cards().len())?;
+    out.extend_from_slice(b"\n")
+}
+
 /// Adds the submission of the deck.
 #[tactic(auto, unfolding(crate::specs::Restoring::submission))]
 fn push_submission(
@@ -39,16 +68,7 @@ fn push_submission(
     ensures { OnOk result (out.new.items ≡ out.old.items ++ submission run.now stretch) }
 {
     let deck = write_text(alloc, run.deck())?;
-    push_on_job(out, "submit", run)?;
-    out.extend_from_slice(b" ")?;
-    out.extend_from_slice(kind_word(run.kind()).as_bytes())?;
-    out.extend_from_slice(b" ")?;
-    push_decimal(out, run.size().positions() as usize)?;
-    out.extend_from_slice(b" ")?;
-    push_switches(out, stretch.switches)?;
-    out.extend_from_slice(b" ")?;
-    push_decimal(out, run.deck().cards().len())?;
-    out.extend_from_slice(b"\n")?;
+    push_submission_line(out, run, stretch)?;
     out.extend_from_slice(&deck)
 }
 
