@@ -87,15 +87,15 @@ unfoldable pub deck_digests : List ℕ → List ℕ → List ℕ
 deck_digests deck loaded =
     digest_line (codes "deck.text") deck ++ digest_line (codes "loaded.text") loaded
 
--- the lines of the files of what was printed and punched
-unfoldable pub output_digests : List ℕ → List ℕ → List ℕ → List ℕ
-output_digests lines punched cards = digest_line (codes "lines.text") lines
-    ++ digest_line (codes "cards.punch") punched ++ digest_line (codes "cards.text") cards
+-- the lines of the two files of the punched cards
+unfoldable pub card_digests : List ℕ → List ℕ → List ℕ
+card_digests punched cards =
+    digest_line (codes "cards.punch") punched ++ digest_line (codes "cards.text") cards
 
 -- the lines of a job's files with these bytes
 unfoldable pub digest_lines : List ℕ → List ℕ → List ℕ → List ℕ → List ℕ → List ℕ
-digest_lines deck loaded lines punched cards =
-    deck_digests deck loaded ++ output_digests lines punched cards
+digest_lines deck loaded lines punched cards = deck_digests deck loaded
+    ++ digest_line (codes "lines.text") lines ++ card_digests punched cards
 
 -- the record of a job with these files: its name, its kind, size and profile, a line for each
 -- stretch, how it stands, how much it has made, the pockets of its cards, and its files

@@ -1,7 +1,7 @@
 //! The record of a job: its name and its numbers, and the digests of its files.
 
 ghost use Rattle.std.specs.Prelude.{◌≡◌, ◌++◌, codes, flat_map, IfOk, OnOk};
-ghost use Rattle.job_archives.specs.Records.{deck_digests, digest_lines, kind_word, name_lines, made_lines, machine_lines, output_digests, pocket_line, pocket_lines, profile_word, record_of, standing_lines, stretch_line, yes_or_no};
+ghost use Rattle.job_archives.specs.Records.{card_digests, deck_digests, digest_lines, kind_word, name_lines, made_lines, machine_lines, pocket_line, pocket_lines, profile_word, record_of, standing_lines, stretch_line, yes_or_no};
 
 use crate::lines::{push_file, push_line, push_number, push_pocket, push_stretch};
 use job_checks::JobRun;
@@ -109,19 +109,16 @@ fn push_decks(
     push_file(alloc, out, "loaded.text", loaded)
 }
 
-/// Adds the lines of the files of what was printed and punched.
-#[tactic(auto, unfolding(crate::specs::Records::output_digests))]
-fn push_outputs(
+/// Adds the lines of the two files of the punched cards.
+#[tactic(auto, unfolding(crate::specs::Records::card_digests))]
+fn push_cards(
     alloc: Global,
     out: &mut Vec<u8>,
-    lines: &[u8],
     punched: &[u8],
     cards: &[u8],
 ) -> Result<(), AllocError>
-    ensures { OnOk result (out.new.items
-        ≡ out.old.items ++ output_digests lines.now punched.now cards.now) }
+    ensures { OnOk result (out.new.items ≡ out.old.items ++ card_digests punched.now cards.now) }
 {
-    push_file(alloc, out, "lines.text", lines)?;
     push_file(alloc, out, "cards.punch", punched)?;
     push_file(alloc, out, "cards.text", cards)
 }
@@ -141,7 +138,8 @@ fn push_files(
         ++ digest_lines deck.now loaded.now lines.now punched.now cards.now) }
 {
     push_decks(alloc, out, deck, loaded)?;
-    push_outputs(alloc, out, lines, punched, cards)
+    push_file(alloc, out, "lines.text", lines)?;
+    push_cards(alloc, out, punched, cards)
 }
 
 /// The record of a job with these files.
