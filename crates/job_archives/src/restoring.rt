@@ -42,11 +42,7 @@ fn push_setup(out: &mut Vec<u8>, run: &JobRun, stretch: Stretch) -> Result<(), A
 
 /// Adds the line of the submission.
 #[tactic(auto, unfolding(crate::specs::Restoring::submission_line))]
-fn push_submission_line(
-    out: &mut Vec<u8>,
-    run: &JobRun,
-    stretch: Stretch,
-) -> Result<(), AllocError>
+fn push_submission_line(out: &mut Vec<u8>, run: &JobRun, stretch: Stretch) -> Result<(), AllocError>
     ensures { OnOk result (out.new.items ≡ out.old.items ++ submission_line run.now stretch) }
 {
     push_on_job(out, "submit", run)?;
@@ -163,12 +159,7 @@ pub fn stretch_script(
 }
 
 /// Adds a command on the job, if a flag is set.
-fn push_if(
-    out: &mut Vec<u8>,
-    flag: bool,
-    verb: &str,
-    run: &JobRun,
-) -> Result<(), AllocError>
+fn push_if(out: &mut Vec<u8>, flag: bool, verb: &str, run: &JobRun) -> Result<(), AllocError>
     ensures { OnOk result (out.new.items ≡ out.old.items ++ if_set flag verb.now run.now) }
 {
     if !flag {

@@ -142,10 +142,7 @@ fn tell_apart<W: Write>(kept: &Archive, now: &Archive, output: &mut W) -> io::Re
     output.write_all(other)?;
     let files = [
         ("lines.text", kept.lines.as_slice() == now.lines.as_slice()),
-        (
-            "cards.text",
-            kept.cards.as_slice() == now.cards.as_slice(),
-        ),
+        ("cards.text", kept.cards.as_slice() == now.cards.as_slice()),
     ];
     for (name, is_same) in files {
         let word = if is_same { "the same" } else { "other" };
@@ -326,8 +323,12 @@ pub(crate) fn restore_shelf<W: Write, E: Write>(
 ) -> io::Result<Status> {
     let part = format!(in rt.alloc(); "{new}.part")?;
     let part = part.as_str();
-    if is_taken(rt, new, "it is there; give the new file another name", errors)?
-        || is_taken(rt, part, "a restore left it; remove it", errors)?
+    if is_taken(
+        rt,
+        new,
+        "it is there; give the new file another name",
+        errors,
+    )? || is_taken(rt, part, "a restore left it; remove it", errors)?
     {
         return Ok(Status::Unusable);
     }

@@ -46,7 +46,11 @@ fn names_in(rt: &HostRuntime, path: &str) -> io::Result<Vec<String>> {
 /// The number of a job whose folder has this name.
 fn job_number(name: &str) -> Option<u32> {
     let number = number_of(name)?;
-    if is_number(number) { Some(number) } else { None }
+    if is_number(number) {
+        Some(number)
+    } else {
+        None
+    }
 }
 
 impl Shelf {

@@ -76,7 +76,9 @@ fn run_again(rt: &HostRuntime, path: &str, deck: &[u8], record: &[u8]) -> io::Re
             let number = fault.error.number();
             wrong(
                 rt,
-                format!(in rt.alloc(); "data/deck.text: card {card} column {column} fault {number}")?,
+                format!(in rt.alloc();
+                    "data/deck.text: card {card} column {column} fault {number}"
+                )?,
             )
         }
         Err(Unrun::Record(part)) => {
