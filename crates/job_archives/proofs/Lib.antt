@@ -6,6 +6,8 @@ pub mod WordsRead
 pub mod RecordLines
 pub mod RecordLaw
 pub mod Readable
+mod BagLemmas
+mod RerunLemmas
 mod CopyLemmas
 mod ChosenRows
 pub mod PartLemmas

@@ -75,7 +75,7 @@ same_stretches (s ∷ one) (t ∷ other) rest more a b none others e =
 
 -- no line of a pocket begins here
 abbrev pub HasNoPocket : List ℕ → Type 0
-HasNoPocket text = get_or text 0 0 ≡ 115
+HasNoPocket text = get_or text 0 0 ≡ 83
 
 -- a line of a pocket begins here, with a place
 record HasPlace (text : List ℕ) (place : ℕ) : Type 0 where
@@ -130,7 +130,7 @@ same_apart place later pocket other rest more a b c d e =
 -- a line of a place is no line of a later one
 not_behind : (place pocket : ℕ) (rest text : List ℕ) → place < 2 ^ 64 → pocket < 10 → IsBehind place text → apart_line place pocket ++ rest ≢ text
 not_behind place pocket rest text small few (inl none) e =
-    absurd (let clash : 112 ≡ 115 = ap (λ (l : List ℕ). get_or l 0 0) e ∙ none in omega (arith, clash))
+    absurd (let clash : 112 ≡ 83 = ap (λ (l : List ℕ). get_or l 0 0) e ∙ none in omega (arith, clash))
 not_behind place pocket rest text small few (inr it) e =
     let same = same_apart place it.0 pocket it.2.pocket rest it.2.rest small it.2.small few it.2.few (e ∙ it.2.is) in
     omega (arith, same.0, it.1)

@@ -7,6 +7,7 @@ use Rattle.units.specs.Listing.{rendered}
 use Rattle.office.specs.Jobs.{cards_by, lines_by, loaded_deck}
 use Rattle.office.specs.Office.{Entry}
 use Rattle.job_archives.specs.Records.{record_of}
+use Rattle.job_archives.specs.declared.archives.BagFile.{BagFile}
 
 -- the bytes of the files of an archive
 pub record Files : Type 0 where
@@ -58,11 +59,19 @@ archive_of e = record {
   facts = record_of e (deck_file e) (loaded_file e) (lines_file e) (punch_file e) (cards_file e);
 }
 
--- the files of an archive, each with its name in the folder of its job
-abbrev pub named_files : Files → List (List ℕ × List ℕ)
-named_files it = (codes "deck.text", it.deck) ∷ (codes "loaded.text", it.loaded)
-    ∷ (codes "lines.text", it.lines) ∷ (codes "cards.punch", it.punched)
-    ∷ (codes "cards.text", it.cards) ∷ (codes "record", it.facts) ∷ []
+-- a file of a bag: its path in the bag, and its bytes
+abbrev pub File : Type 0
+File = List ℕ × List ℕ
+
+-- these files, each by its path and its bytes
+abbrev pub files_as : List BagFile → List File
+files_as = map (λ file. (file.path.now, file.bytes.now))
+
+-- the payload of a bag: the files of an archive, in the order of their names
+abbrev pub payload_of : Files → List File
+payload_of it = (codes "data/cards.punch", it.punched) ∷ (codes "data/cards.text", it.cards)
+    ∷ (codes "data/deck.text", it.deck) ∷ (codes "data/lines.text", it.lines)
+    ∷ (codes "data/loaded.text", it.loaded) ∷ (codes "data/record", it.facts) ∷ []
 
 -- these cards alone have this file
 abbrev pub AreOnly : (List Card → List ℕ) → List ℕ → List Card → Type 0

@@ -1,8 +1,11 @@
 pub mod Archives
+pub mod Bags
 pub mod Facts
 pub mod Lists
 pub mod Names
 pub mod Records
+pub mod Reruns
+pub mod Restoring
 pub mod Copies
 pub mod Parts
 pub mod Joins

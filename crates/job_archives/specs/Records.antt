@@ -41,9 +41,9 @@ abbrev pub stretch_line : Stretch → List ℕ
 stretch_line s = codes "stretch " ++ switches.text_of s.switches ++ codes " " ++ decimal s.granted
     ++ codes "\n"
 
--- the line of a file: the digest of its bytes, and its name
-abbrev pub digest_line : List ℕ → List ℕ → List ℕ
-digest_line name bytes = codes "sha256 " ++ digest_of bytes ++ codes " " ++ name ++ codes "\n"
+-- the line of a file: its name, and the digest of its bytes, as `sha256sum --tag` writes it
+unfoldable pub digest_line : List ℕ → List ℕ → List ℕ
+digest_line name bytes = codes "SHA256 (" ++ name ++ codes ") = " ++ digest_of bytes ++ codes "\n"
 
 -- the lines of a job's name
 unfoldable pub name_lines : Entry → List ℕ
@@ -82,11 +82,20 @@ abbrev pub pocket_lines : ℕ → List Punched → List ℕ
 pocket_lines first [] = []
 pocket_lines first (c ∷ cards) = pocket_line first c.pocket ++ pocket_lines (first + 1) cards
 
+-- the lines of the files of what was handed in and loaded
+unfoldable pub deck_digests : List ℕ → List ℕ → List ℕ
+deck_digests deck loaded =
+    digest_line (codes "deck.text") deck ++ digest_line (codes "loaded.text") loaded
+
+-- the lines of the two files of the punched cards
+unfoldable pub card_digests : List ℕ → List ℕ → List ℕ
+card_digests punched cards =
+    digest_line (codes "cards.punch") punched ++ digest_line (codes "cards.text") cards
+
 -- the lines of a job's files with these bytes
 unfoldable pub digest_lines : List ℕ → List ℕ → List ℕ → List ℕ → List ℕ → List ℕ
-digest_lines deck loaded lines punched cards = digest_line (codes "deck.text") deck
-    ++ digest_line (codes "loaded.text") loaded ++ digest_line (codes "lines.text") lines
-    ++ digest_line (codes "cards.punch") punched ++ digest_line (codes "cards.text") cards
+digest_lines deck loaded lines punched cards = deck_digests deck loaded
+    ++ digest_line (codes "lines.text") lines ++ card_digests punched cards
 
 -- the record of a job with these files: its name, its kind, size and profile, a line for each
 -- stretch, how it stands, how much it has made, the pockets of its cards, and its files

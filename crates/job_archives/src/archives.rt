@@ -1,10 +1,9 @@
 //! The files of a job's archive.
 
-ghost use Rattle.std.specs.Prelude.{◌≡◌, map, IfOk};
-ghost use Rattle.job_archives.specs.declared.archives.ArchivedFile.{ArchivedFile};
+ghost use Rattle.std.specs.Prelude.{◌≡◌, IfOk};
 ghost use Rattle.units.specs.Listing.{rendered};
 ghost use Rattle.office.specs.Jobs.{lines_by};
-ghost use Rattle.job_archives.specs.Archives.{archive_of, cards_of, named_files};
+ghost use Rattle.job_archives.specs.Archives.{archive_of, cards_of, files_as, payload_of};
 
 use crate::punched::text_of_cards;
 use crate::records::record_of;
@@ -47,44 +46,35 @@ impl Model for Archive {
     } };
 }
 
-/// A file of an archive, in the folder of its job.
+/// A file of a bag.
 #[derive(Clone, Copy)]
-pub struct ArchivedFile<'a> {
-    pub name: &'a str,
+pub struct BagFile<'a> {
+    /// Its path in the folder of the bag.
+    pub path: &'a str,
+    /// Its bytes.
     pub bytes: &'a [u8],
 }
 
+/// The file of this path, with these bytes.
+pub(crate) fn file<'a>(path: &'a str, bytes: &'a [u8]) -> BagFile<'a>
+    ensures path { result.path.now ≡ path.now }
+    ensures bytes { result.bytes.now ≡ bytes.now }
+{
+    BagFile { path, bytes }
+}
+
 impl Archive {
-    /// The files, each with its name.
-    pub fn files(&self) -> [ArchivedFile<'_>; 6]
-        ensures { map (λ (file : ArchivedFile). (file.name.now, file.bytes.now)) result
-            ≡ named_files self.now }
+    /// The payload of a bag: the files, each with its path, in the order of their names.
+    pub fn payload(&self) -> [BagFile<'_>; 6]
+        ensures { files_as result ≡ payload_of self.now }
     {
         [
-            ArchivedFile {
-                name: "deck.text",
-                bytes: &self.deck,
-            },
-            ArchivedFile {
-                name: "loaded.text",
-                bytes: &self.loaded,
-            },
-            ArchivedFile {
-                name: "lines.text",
-                bytes: &self.lines,
-            },
-            ArchivedFile {
-                name: "cards.punch",
-                bytes: &self.punched,
-            },
-            ArchivedFile {
-                name: "cards.text",
-                bytes: &self.cards,
-            },
-            ArchivedFile {
-                name: "record",
-                bytes: &self.facts,
-            },
+            file("data/cards.punch", &self.punched),
+            file("data/cards.text", &self.cards),
+            file("data/deck.text", &self.deck),
+            file("data/lines.text", &self.lines),
+            file("data/loaded.text", &self.loaded),
+            file("data/record", &self.facts),
         ]
     }
 }

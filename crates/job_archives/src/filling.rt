@@ -15,6 +15,38 @@ use std::alloc::Global;
 /// How many jobs of a bureau are looked at in one transaction of the new one.
 const JOBS: usize = 64;
 
+/// Adds a row to `jobs`.
+const PUT_JOB: &str = "INSERT INTO jobs (customer, number, kind, size, deck, loaded, held, \
+    collected) VALUES (?1, ?2, ?3, ?4, ?5, ?6, ?7, ?8)";
+
+/// Adds a row to `stretches`.
+const PUT_STRETCH: &str = "INSERT INTO stretches (customer, number, place, switches, granted) \
+    VALUES (?1, ?2, ?3, ?4, ?5)";
+
+/// Adds a row to `states`.
+const PUT_STATE: &str = "INSERT INTO states (customer, number, i, a, b, compare, overflow, \
+    channel, waiting, form, line, taken, cards, lines, standing) \
+    VALUES (?1, ?2, ?3, ?4, ?5, ?6, ?7, ?8, ?9, ?10, ?11, ?12, ?13, ?14, ?15)";
+
+/// Adds a row to `pages`.
+const PUT_PAGE: &str =
+    "INSERT INTO pages (customer, number, page, storage) VALUES (?1, ?2, ?3, ?4)";
+
+/// Adds a row to `profiles`.
+const PUT_PROFILE: &str =
+    "INSERT INTO profiles (customer, number, profile, chosen) VALUES (?1, ?2, ?3, ?4)";
+
+/// Adds a row to `cards`.
+const PUT_CARD: &str = "INSERT INTO cards (customer, number, place, card) VALUES (?1, ?2, ?3, ?4)";
+
+/// Adds a row to `pockets`.
+const PUT_POCKET: &str =
+    "INSERT INTO pockets (customer, number, place, pocket) VALUES (?1, ?2, ?3, ?4)";
+
+/// Adds a row to `lines`.
+const PUT_LINE: &str = "INSERT INTO lines (customer, number, place, form, line, image) \
+    VALUES (?1, ?2, ?3, ?4, ?5, ?6)";
+
 /// Adds a row to a table, by a statement with a parameter for each of its columns.
 fn put_row<S: Alter>(
     alloc: Global,
@@ -50,83 +82,21 @@ fn put_rows<S: Alter>(
     Ok(())
 }
 
-/// Adds the row of a job to `jobs`.
-fn put_name<S: Alter>(alloc: Global, tx: &mut Transaction<'_, S>, job: &Row) -> Result<(), Fault>
-    ensures { tx.new.conn.ghost_name ≡ tx.old.conn.ghost_name }
-{
-    put_row(
-        alloc,
-        tx,
-        "INSERT INTO jobs (customer, number, kind, size, deck, loaded, held, collected) \
-         VALUES (?1, ?2, ?3, ?4, ?5, ?6, ?7, ?8)",
-        job,
-    )
-}
-
-/// Adds the rows of a job's machine: its stretches, its state, its pages and its profile.
-fn put_machine<S: Alter>(
+/// Adds the rows of a job in all other tables.
+fn put_tables<S: Alter>(
     alloc: Global,
     tx: &mut Transaction<'_, S>,
     rows: &JobRows,
 ) -> Result<(), Fault>
     ensures { tx.new.conn.ghost_name ≡ tx.old.conn.ghost_name }
 {
-    put_rows(
-        alloc,
-        tx,
-        "INSERT INTO stretches (customer, number, place, switches, granted) \
-         VALUES (?1, ?2, ?3, ?4, ?5)",
-        &rows.stretches,
-    )?;
-    put_rows(
-        alloc,
-        tx,
-        "INSERT INTO states (customer, number, i, a, b, compare, overflow, channel, waiting, form, \
-         line, taken, cards, lines, standing) \
-         VALUES (?1, ?2, ?3, ?4, ?5, ?6, ?7, ?8, ?9, ?10, ?11, ?12, ?13, ?14, ?15)",
-        &rows.states,
-    )?;
-    put_rows(
-        alloc,
-        tx,
-        "INSERT INTO pages (customer, number, page, storage) VALUES (?1, ?2, ?3, ?4)",
-        &rows.pages,
-    )?;
-    put_rows(
-        alloc,
-        tx,
-        "INSERT INTO profiles (customer, number, profile, chosen) VALUES (?1, ?2, ?3, ?4)",
-        &rows.profiles,
-    )
-}
-
-/// Adds the rows of what a job has made: its cards with their pockets, and its lines.
-fn put_outputs<S: Alter>(
-    alloc: Global,
-    tx: &mut Transaction<'_, S>,
-    rows: &JobRows,
-) -> Result<(), Fault>
-    ensures { tx.new.conn.ghost_name ≡ tx.old.conn.ghost_name }
-{
-    put_rows(
-        alloc,
-        tx,
-        "INSERT INTO cards (customer, number, place, card) VALUES (?1, ?2, ?3, ?4)",
-        &rows.cards,
-    )?;
-    put_rows(
-        alloc,
-        tx,
-        "INSERT INTO pockets (customer, number, place, pocket) VALUES (?1, ?2, ?3, ?4)",
-        &rows.pockets,
-    )?;
-    put_rows(
-        alloc,
-        tx,
-        "INSERT INTO lines (customer, number, place, form, line, image) \
-         VALUES (?1, ?2, ?3, ?4, ?5, ?6)",
-        &rows.lines,
-    )
+    put_rows(alloc, tx, PUT_STRETCH, &rows.stretches)?;
+    put_rows(alloc, tx, PUT_STATE, &rows.states)?;
+    put_rows(alloc, tx, PUT_PAGE, &rows.pages)?;
+    put_rows(alloc, tx, PUT_PROFILE, &rows.profiles)?;
+    put_rows(alloc, tx, PUT_CARD, &rows.cards)?;
+    put_rows(alloc, tx, PUT_POCKET, &rows.pockets)?;
+    put_rows(alloc, tx, PUT_LINE, &rows.lines)
 }
 
 /// Adds all rows of a job, if it is of these customers. They are read in a transaction of its
@@ -148,9 +118,8 @@ fn put_job<S: Alter, T: Alter>(
     }
     let name = name_in(job)?;
     let rows = JobRows::read(file, name)?;
-    put_name(alloc, new, job)?;
-    put_machine(alloc, new, &rows)?;
-    put_outputs(alloc, new, &rows)
+    put_row(alloc, new, PUT_JOB, job)?;
+    put_tables(alloc, new, &rows)
 }
 
 /// Adds all rows of those of these jobs that are of these customers.

@@ -60,7 +60,8 @@ pub(crate) fn push_pocket(out: &mut Vec<u8>, place: usize, pocket: Pocket) -> Re
     }
 }
 
-/// Adds the line of a file: the digest of its bytes, and its name.
+/// Adds the line of a file: its name, and the digest of its bytes.
+#[tactic(auto, unfolding(crate::specs::Records::digest_line))]
 pub(crate) fn push_file(
     alloc: Global,
     out: &mut Vec<u8>,
@@ -69,9 +70,9 @@ pub(crate) fn push_file(
 ) -> Result<(), AllocError>
     ensures { OnOk result (out.new.items ≡ out.old.items ++ digest_line name.now bytes.now) }
 {
-    out.extend_from_slice(b"sha256 ")?;
-    push_digest(alloc, out, bytes)?;
-    out.extend_from_slice(b" ")?;
+    out.extend_from_slice(b"SHA256 (")?;
     out.extend_from_slice(name.as_bytes())?;
+    out.extend_from_slice(b") = ")?;
+    push_digest(alloc, out, bytes)?;
     out.extend_from_slice(b"\n")
 }

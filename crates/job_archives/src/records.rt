@@ -1,7 +1,7 @@
 //! The record of a job: its name and its numbers, and the digests of its files.
 
 ghost use Rattle.std.specs.Prelude.{◌≡◌, ◌++◌, codes, flat_map, IfOk, OnOk};
-ghost use Rattle.job_archives.specs.Records.{digest_lines, kind_word, name_lines, made_lines, machine_lines, pocket_line, pocket_lines, profile_word, record_of, standing_lines, stretch_line, yes_or_no};
+ghost use Rattle.job_archives.specs.Records.{card_digests, deck_digests, digest_lines, kind_word, name_lines, made_lines, machine_lines, pocket_line, pocket_lines, profile_word, record_of, standing_lines, stretch_line, yes_or_no};
 
 use crate::lines::{push_file, push_line, push_number, push_pocket, push_stretch};
 use job_checks::JobRun;
@@ -10,7 +10,7 @@ use std::alloc::{AllocError, Global};
 use units::{Profile, Punched};
 
 /// The word for a kind.
-fn kind_word(kind: Kind) -> &'static str
+pub(crate) fn kind_word(kind: Kind) -> &'static str
     ensures { result.now ≡ kind_word kind }
 {
     match kind {
@@ -95,6 +95,34 @@ fn push_pockets(out: &mut Vec<u8>, cards: &[Punched]) -> Result<(), AllocError>
     Ok(())
 }
 
+/// Adds the lines of the files of what was handed in and loaded.
+#[tactic(auto, unfolding(crate::specs::Records::deck_digests))]
+fn push_decks(
+    alloc: Global,
+    out: &mut Vec<u8>,
+    deck: &[u8],
+    loaded: &[u8],
+) -> Result<(), AllocError>
+    ensures { OnOk result (out.new.items ≡ out.old.items ++ deck_digests deck.now loaded.now) }
+{
+    push_file(alloc, out, "deck.text", deck)?;
+    push_file(alloc, out, "loaded.text", loaded)
+}
+
+/// Adds the lines of the two files of the punched cards.
+#[tactic(auto, unfolding(crate::specs::Records::card_digests))]
+fn push_cards(
+    alloc: Global,
+    out: &mut Vec<u8>,
+    punched: &[u8],
+    cards: &[u8],
+) -> Result<(), AllocError>
+    ensures { OnOk result (out.new.items ≡ out.old.items ++ card_digests punched.now cards.now) }
+{
+    push_file(alloc, out, "cards.punch", punched)?;
+    push_file(alloc, out, "cards.text", cards)
+}
+
 /// Adds the lines of a job's files.
 #[tactic(auto, unfolding(crate::specs::Records::digest_lines))]
 fn push_files(
@@ -109,11 +137,9 @@ fn push_files(
     ensures { OnOk result (out.new.items ≡ out.old.items
         ++ digest_lines deck.now loaded.now lines.now punched.now cards.now) }
 {
-    push_file(alloc, out, "deck.text", deck)?;
-    push_file(alloc, out, "loaded.text", loaded)?;
+    push_decks(alloc, out, deck, loaded)?;
     push_file(alloc, out, "lines.text", lines)?;
-    push_file(alloc, out, "cards.punch", punched)?;
-    push_file(alloc, out, "cards.text", cards)
+    push_cards(alloc, out, punched, cards)
 }
 
 /// The record of a job with these files.

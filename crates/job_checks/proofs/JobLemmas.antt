@@ -17,21 +17,20 @@ use Rattle.ledger_tables.specs.Tables.{job_row}
 use Rattle.ledger.specs.Standing.{named, CanBeKept}
 use Rattle.job_checks.specs.Again.{HasResumed, IsLoading}
 use Rattle.job_checks.specs.Jobs.{HasComeTo, HasRunAs, IsNameOf, entry_of, numbers_of, row_of}
-use Rattle.job_checks.specs.Kept.{HasMachine, IsKept, IsNamed, rows_of_stretches}
+use Rattle.job_checks.specs.Kept.{HasMachine, IsNamed, rows_of_stretches}
 use Rattle.job_checks.specs.Tables.{TableRows, rows_of}
 use Rattle.job_checks.specs.declared.submitted.Numbers.{Numbers}
 
-module _ (all : TableRows) (it : Row) (customer : List ℕ) (number : ℕ) (numbers : Numbers) (deck loaded : List Card) (deck_b loaded_b : List ℕ) (profile : Profile) (stretches : List Stretch) (m : State)
-    (loading : IsLoading numbers.kind deck loaded) (deck_is : deck_b ≡ deck_bytes deck) (loaded_is : loaded_b ≡ deck_bytes loaded) (row : it ≡ row_of customer number numbers deck_b loaded_b)
-    (has_stretches : rows_of customer number all.stretches ≡ rows_of_stretches customer number stretches) (went : HasResumed (run.loaded loaded numbers.size all_off profile) stretches m)
-    (machine : HasMachine customer number all m) (cards : All IsPunched m.works.units.punch.cards) (lines : All IsLine (lines_of m)) (storage : HoldsCharacters m.works.storage) where
-  abbrev e : Entry
+module _ (customer : List ℕ) (number : ℕ) (numbers : Numbers) (deck loaded : List Card) (profile : Profile) (stretches : List Stretch) (m : State)
+    (loading : IsLoading numbers.kind deck loaded) (went : HasResumed (run.loaded loaded numbers.size all_off profile) stretches m)
+    (cards : All IsPunched m.works.units.punch.cards) (lines : All IsLine (lines_of m)) (storage : HoldsCharacters m.works.storage) where
+  abbrev pub e : Entry
   e = entry_of customer number numbers deck profile stretches
 
   begun_is : run.loaded loaded numbers.size all_off profile ≡ run.loaded (loaded_of numbers.kind deck) numbers.size all_off profile
   begun_is = ap (λ d. run.loaded d numbers.size all_off profile) loading.loaded_is
 
-  picture_is : m ≡ picture e.job
+  pub picture_is : m ≡ picture e.job
   picture_is = went.machine ∙ ap (λ b. resumed b stretches) begun_is
 
   is_job : IsJob e.job
@@ -44,7 +43,7 @@ module _ (all : TableRows) (it : Row) (customer : List ℕ) (number : ℕ) (numb
     halts = λ n some within. subst (λ (b : State). (resumed b (take n stretches)).standing ≡ Halted) begun_is (went.halts n some within);
   }
 
-  can : CanBeKept e.job
+  pub can : CanBeKept e.job
   can = record {
     job = is_job;
     storage = subst (λ (s : State). HoldsCharacters s.works.storage) picture_is storage;
@@ -52,17 +51,16 @@ module _ (all : TableRows) (it : Row) (customer : List ℕ) (number : ℕ) (numb
     lines = subst (λ (s : State). All IsLine (lines_of s)) picture_is lines;
   }
 
-  kept : IsKept all e
-  kept = record { can = can; stretches = has_stretches; machine = subst (HasMachine customer number all) picture_is machine }
-
   pub come_to : IsNamed e → HasComeTo e m
   come_to named = record { named = named; can = can; machine = picture_is }
 
-  pub run_as : HasRunAs all it e
-  run_as = record {
+  -- the same, where the job has its rows
+  pub run_as : (all : TableRows) (it : Row) (deck_b loaded_b : List ℕ) → deck_b ≡ deck_bytes deck → loaded_b ≡ deck_bytes loaded → it ≡ row_of customer number numbers deck_b loaded_b
+      → rows_of customer number all.stretches ≡ rows_of_stretches customer number stretches → HasMachine customer number all m → HasRunAs all it e
+  run_as all it deck_b loaded_b deck_is loaded_is row has_stretches machine = record {
     row = row ∙ ap (λ b. row_of customer number numbers b loaded_b) deck_is
         ∙ ap (λ b. row_of customer number numbers (deck_bytes deck) b) (loaded_is ∙ ap deck_bytes loading.loaded_is);
-    kept = kept;
+    kept = record { can = can; stretches = has_stretches; machine = subst (HasMachine customer number all) picture_is machine };
   }
 
 -- a machine that went through a job's stretches is as in the job's picture

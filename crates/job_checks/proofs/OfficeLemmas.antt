@@ -1,6 +1,6 @@
 -- The office that the reports tell of.
-use Rattle.std.proofs.Common.{◌≡◌, pos, List, [], ◌∷◌, map, true, sym, ap}
-use Rattle.std.specs.List.{AllByRecursion, AllZip}
+use Rattle.std.proofs.Common.{◌≡◌, pos, [], ◌∷◌, map, true, sym, ap}
+use Rattle.std.specs.List.{AllByRecursion}
 use Rattle.std.proofs.lemmas.Bool.{false_from_ne_true}
 use Rattle.office.specs.Office.{Entry, Office, AreDistinct, IsFree, is_entry}
 use Rattle.sqlite.specs.declared.types.Value.TheVariants.{Int, Text}

@@ -1,5 +1,5 @@
 -- What a query for a whole table answers.
-use Rattle.std.proofs.Common.{◌≡◌, ℕ, ℤ, suc, List, [], ◌∷◌, ◌++◌, Bool, true, cond, map, filter, flat_map, get_or, All, false, IsTrue, IsSorted, Ordering, Less, Greater, is_lt, refl, sym, ap, ap₂, subst, ◌∙◌, add-one, arith, true≢false}
+use Rattle.std.proofs.Common.{◌≡◌, ℕ, ℤ, suc, List, [], ◌∷◌, ◌++◌, true, cond, map, filter, flat_map, get_or, All, false, IsTrue, IsSorted, Ordering, Less, Greater, is_lt, refl, sym, ap, ap₂, subst, ◌∙◌, add-one, arith, true≢false}
 use Rattle.std.specs.Cmp.{IsTotalOrder}
 use Rattle.std.specs.List.{AllByRecursion}
 use Rattle.std.specs.List.Sorted.{IsPermutation}

@@ -53,6 +53,10 @@ entry_of customer number it deck profile stretches = record {
   };
 }
 
+-- the entry of this name with this job
+abbrev pub told_entry : List ℕ → ℕ → Job → Entry
+told_entry customer number job = record { customer = customer; number = number; job = job }
+
 -- the entry has a name that a job may have, its job can be kept, and its machine has come to this
 -- state
 pub record HasComeTo (e : Entry) (m : State) : Type 0 where

@@ -86,16 +86,7 @@ fn check_again(
     let Loaded { deck, loaded, .. } = loaded;
     let machine = run_again(alloc, loaded, numbers.size, profile, &stretches)?;
     check_machine(rows, name, machine.parts())?;
-    let customer = String::from_str(alloc, name.customer)?;
-    let run = JobRun::new(
-        customer,
-        name.number,
-        numbers,
-        deck,
-        profile,
-        stretches,
-        machine,
-    );
+    let run = JobRun::of(alloc, name, numbers, deck, profile, stretches, machine)?;
     Ok(run)
 }
 

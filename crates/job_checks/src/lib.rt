@@ -4,7 +4,8 @@
 //! [`each_job`] goes through the rows of `jobs`: it reads the other rows of one job ([`JobRows`]),
 //! runs the job again, and has it taken exactly if its rows are those that it makes. [`check`]
 //! makes a report of this, and compares the schema with that of a bureau without jobs.
-//! [`report_text`] is what is printed of it (`specs/Texts.antt`).
+//! [`report_text`] is what is printed of it (`specs/Texts.antt`). [`run_told`] runs a job again that is
+//! told, and is in no rows.
 //!
 //! The contract for the layer above: a report tells no difference exactly where the tables stand
 //! for an office whose jobs have names that jobs may have, and then it tells of each of its jobs
@@ -34,6 +35,7 @@ mod reports;
 mod runs;
 mod schemas;
 mod submitted;
+mod told;
 mod walks;
 mod whole_tables;
 
@@ -47,5 +49,6 @@ pub use report_lines::{job_text, orphans_text, push_summary, report_text};
 pub use reports::{JobReport, Orphan, Outcome, Report, Table};
 pub use runs::JobRun;
 pub use schemas::SchemaDifference;
+pub use told::{ToldJob, run_told};
 pub use walks::{EachJob, Walked, each_job};
 pub use whole_tables::{read_jobs, read_version};

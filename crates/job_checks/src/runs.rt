@@ -15,6 +15,7 @@ use machine::{Machine, Parts, runs_only_add};
 use office::{Kind, Stretch, Summary, granted_in};
 use std::alloc::{AllocError, Global};
 use std::marker::Model;
+use texts::JobName;
 use units::Profile;
 
 /// A job that was run again: what its customer handed in, its stretches and flags, and its machine
@@ -46,29 +47,30 @@ impl Model for JobRun {
 
 impl JobRun {
     /// The job with this name, these contents and stretches, and the machine that they lead to.
-    pub(crate) fn new(
-        customer: String,
-        number: u32,
+    /// Fails only if there is no memory.
+    pub(crate) fn of(
+        alloc: Global,
+        name: JobName<'_>,
         numbers: Numbers,
         deck: Deck,
         profile: Profile,
         stretches: Vec<Stretch>,
         machine: Machine<PlaneCore>,
-    ) -> JobRun
-        requires { HasComeTo (entry_of (string_bytes customer) number numbers deck profile
+    ) -> Result<JobRun, AllocError>
+        requires { HasComeTo (entry_of name.customer.now name.number numbers deck profile
             stretches.items) machine }
-        ensures { result ≡ entry_of (string_bytes customer) number numbers deck profile
-            stretches.items }
+        ensures { IfOk result (λ run. run ≡ entry_of name.entry.customer.now name.entry.number
+            numbers deck profile stretches.items) }
     {
-        JobRun {
-            customer,
-            number,
+        Ok(JobRun {
+            customer: String::from_str(alloc, name.customer)?,
+            number: name.number,
             numbers,
             deck,
             profile,
             stretches,
             machine,
-        }
+        })
     }
 
     /// Its customer.

@@ -43,6 +43,18 @@ operator = record {
         codes "archive FILE FOLDER",
       )
       ∷ (
+        name.Verify,
+        codes "verify",
+        (codes "FOLDER", Value) ∷ [],
+        codes "verify FOLDER",
+      )
+      ∷ (
+        name.Restore,
+        codes "restore",
+        (codes "FOLDER", Value) ∷ (codes "NEW", Value) ∷ [],
+        codes "restore FOLDER NEW",
+      )
+      ∷ (
         name.Work,
         codes "work",
         (codes "PORT", Value) ∷ (codes "slice", Setting) ∷ (codes "rounds", Setting)

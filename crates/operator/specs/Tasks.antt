@@ -9,7 +9,7 @@ use Rattle.operator.specs.Values.{IsUpTo}
 use Rattle.operator.specs.declared.subcommands.Subcommand.{Subcommand}
 use Rattle.operator.specs.declared.subcommands.Subcommand.TheVariants as name
 use Rattle.operator.specs.declared.tasks.Task.{Task}
-use Rattle.operator.specs.declared.tasks.Task.TheVariants.{Show, Check, Jobs, Copy, Part, Join, Archive, Work, Watch}
+use Rattle.operator.specs.declared.tasks.Task.TheVariants.{Show, Check, Jobs, Copy, Part, Join, Archive, Verify, Restore, Work, Watch}
 use Rattle.operator.specs.declared.tasks.Rounds.{Rounds}
 
 -- the task of `check`
@@ -50,6 +50,17 @@ WantsArchive found (Archive file folder) = HasArgument (codes "FILE") found file
     × HasArgument (codes "FOLDER") found folder.now
 WantsArchive found other = ⊥
 
+-- the task of `verify`
+abbrev pub WantsVerify : List Row → Task → Type 0
+WantsVerify found (Verify folder) = HasArgument (codes "FOLDER") found folder.now
+WantsVerify found other = ⊥
+
+-- the task of `restore`
+abbrev pub WantsRestore : List Row → Task → Type 0
+WantsRestore found (Restore folder new) = HasArgument (codes "FOLDER") found folder.now
+    × HasArgument (codes "NEW") found new.now
+WantsRestore found other = ⊥
+
 -- this is the port that is given, 1 to 65535
 abbrev pub IsPortIn : List Row → ℕ → Type 0
 IsPortIn found port = (text : Text) × HasArgument (codes "PORT") found text
@@ -69,9 +80,9 @@ WantsWork found other = ⊥
 
 -- the task of `watch`: five seconds between two requests for the queue, where no others are given
 abbrev pub WantsWatch : List Row → Task → Type 0
-WantsWatch found (Watch port rounds pause) = IsPortIn found port
-    × ReadsIf (IsUpTo 999999999) (first_of (codes "rounds") found) rounds
-    × ReadsOr (IsUpTo 3600) 5 (first_of (codes "pause") found) pause
+WantsWatch found (Watch it) = IsPortIn found it.port
+    × ReadsIf (IsUpTo 999999999) (first_of (codes "rounds") found) it.rounds
+    × ReadsOr (IsUpTo 3600) 5 (first_of (codes "pause") found) it.pause
 WantsWatch found other = ⊥
 
 -- the task of a subcommand, by what was found after its name
@@ -82,6 +93,8 @@ WantsTask name.Copy found task = WantsCopy found task
 WantsTask name.Part found task = WantsPart found task
 WantsTask name.Join found task = WantsJoin found task
 WantsTask name.Archive found task = WantsArchive found task
+WantsTask name.Verify found task = WantsVerify found task
+WantsTask name.Restore found task = WantsRestore found task
 WantsTask name.Work found task = WantsWork found task
 WantsTask name.Watch found task = WantsWatch found task
 

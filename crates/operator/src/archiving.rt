@@ -1,16 +1,14 @@
 //! The subcommand `archive`.
 
-ghost use Rattle.std.specs.Prelude.{⊤};
-
-use crate::faults::{done_or_told, found, tell_unopened};
+use crate::faults::{done_or_told, tell_unopened};
+use crate::help::agent;
 use crate::job_folders::{Filed, file_job};
+use crate::job_walks::{OnJob, walk_jobs};
+use crate::readme::put_readme;
+use crate::verifying::differ;
 use command_line::Status;
-use job_archives::files_of;
-use job_checks::{EachJob, JobReport, JobRun, Walked, each_job, job_text, orphans_text};
-use ledger_files::{Look, look_into};
-use ledger_tables::{Fault, OpenFault};
-use sqlite::{Alter, Connection};
-use std::alloc::Global;
+use job_archives::bag_of;
+use job_checks::{JobReport, JobRun, Walked, job_text, orphans_text};
 use std::io::Write;
 use std::{fs, io};
 
@@ -29,10 +27,6 @@ struct Archiving<'a, W: Write> {
     folder: &'a str,
     output: &'a mut W,
     counts: Counts,
-    /// What came of the walk through the jobs.
-    walked: Option<Result<Walked, OpenFault>>,
-    /// Why the walk was ended, if it was not the bureau's store.
-    failed: Option<io::Error>,
 }
 
 /// Prints the names in which a folder differs, with a comma between two.
@@ -65,6 +59,13 @@ impl<W: Write> Archiving<'_, W> {
                 write!(self.output, "{customer} {number} is there and differs")?;
                 show_names(names, self.output)
             }
+            Filed::Older => {
+                self.counts.differing = self.counts.differing.saturating_add(1);
+                writeln!(
+                    self.output,
+                    "{customer} {number} is of the older form: move it away, and archive again"
+                )
+            }
             Filed::Hindered(path) => {
                 self.counts.differing = self.counts.differing.saturating_add(1);
                 let path = path.as_str();
@@ -78,8 +79,8 @@ impl<W: Write> Archiving<'_, W> {
 
     /// Files a job that is as it ran.
     fn file(&mut self, run: &JobRun) -> io::Result<()> {
-        let archive = files_of(self.rt.alloc(), run)?;
-        let filed = file_job(self.rt, self.folder, run.customer(), run.number(), &archive)?;
+        let bag = bag_of(self.rt.alloc(), agent(), run)?;
+        let filed = file_job(self.rt, self.folder, run.customer(), run.number(), &bag)?;
         self.tell(run, &filed)
     }
 
@@ -89,9 +90,14 @@ impl<W: Write> Archiving<'_, W> {
         let text = job_text(self.rt.alloc(), report)?;
         self.output.write_all(&text)
     }
+}
 
-    /// Files a job that is as it ran, or prints what differs of it.
-    fn file_or_tell(&mut self, found: Result<JobRun, JobReport>) -> io::Result<()> {
+impl<W: Write> OnJob for Archiving<'_, W> {
+    fn begin(&mut self) -> io::Result<()> {
+        make_folder(self.rt, self.folder)
+    }
+
+    fn take_job(&mut self, found: Result<JobRun, JobReport>) -> io::Result<()> {
         match found {
             Ok(run) => self.file(&run)?,
             Err(report) => self.tell_difference(&report)?,
@@ -100,45 +106,13 @@ impl<W: Write> Archiving<'_, W> {
     }
 }
 
-impl<W: Write> EachJob for Archiving<'_, W> {
-    ghost takes = { λ old new found. ⊤ };
-
-    fn take(&mut self, found: Result<JobRun, JobReport>) -> Result<(), Fault> {
-        match self.file_or_tell(found) {
-            Ok(()) => Ok(()),
-            Err(error) => {
-                self.failed = Some(error);
-                Err(Fault::Store)
-            }
-        }
-    }
-}
-
-impl<W: Write> Look for Archiving<'_, W> {
-    ghost looked = { λ old new. ⊤ };
-
-    fn look<S: Alter + Drop>(&mut self, alloc: Global, conn: Connection<S>) -> S {
-        if let Err(error) = make_folder(self.rt, self.folder) {
-            self.failed = Some(error);
-            return conn.into_store();
-        }
-        let (walked, store) = each_job(alloc, conn, self);
-        self.walked = Some(walked.map_err(OpenFault::from));
-        store
-    }
-}
-
-/// The word for so many jobs that differ.
-fn differ(count: usize) -> &'static str {
-    if count == 1 { "differs" } else { "differ" }
-}
-
-/// Makes the folder of an archive, unless it is there.
+/// Makes the folder of an archive, and the text that says how to read it, unless they are there.
 fn make_folder(rt: &HostRuntime, folder: &str) -> io::Result<()> {
     match fs::create_dir(rt, folder) {
-        Err(error) if error.kind() == io::ErrorKind::AlreadyExists => Ok(()),
-        made => made,
+        Err(error) if error.kind() == io::ErrorKind::AlreadyExists => {}
+        made => made?,
     }
+    put_readme(rt, folder)
 }
 
 /// Prints a row of `bureau` that is not as it is to be, and how many jobs were written, were there
@@ -189,22 +163,12 @@ pub(crate) fn archive_file<W: Write, E: Write>(
             same: 0,
             differing: 0,
         },
-        walked: None,
-        failed: None,
     };
-    let looked = look_into(rt, file, &mut archiving);
-    let Archiving {
-        counts,
-        walked,
-        failed,
-        output,
-        ..
-    } = archiving;
-    if let Some(error) = failed {
-        return done_or_told(Err(error), folder, errors);
-    }
-    match found(looked, walked) {
-        Ok(walked) => done_or_told(tell_end(rt, &walked, counts, output), folder, errors),
-        Err(fault) => tell_unopened(rt, file, fault, errors),
+    let walked = walk_jobs(rt, file, &mut archiving);
+    let Archiving { counts, output, .. } = archiving;
+    match walked {
+        Ok(Ok(walked)) => done_or_told(tell_end(rt, &walked, counts, output), folder, errors),
+        Ok(Err(fault)) => tell_unopened(rt, file, fault, errors),
+        Err(error) => done_or_told(Err(error), folder, errors),
     }
 }

@@ -19,6 +19,9 @@ usage: operator SUBCOMMAND ARGUMENTS.. [OPTIONS]
                           writes a new bureau's file with these customers' jobs
   join FIRST SECOND NEW   writes a new bureau's file with the jobs of two
   archive FILE FOLDER     writes each job's decks, cards and lines into a folder
+  verify FOLDER           runs each job of such a folder again, and compares
+  restore FOLDER NEW      writes a new bureau's file with the jobs of such a
+                          folder, handed in again
   work PORT [OPTIONS]     runs the queue of a bureau that is served, in turns
   watch PORT [OPTIONS]    tells what comes into that queue, and what leaves it
 
@@ -137,13 +140,56 @@ example:
   operator archive my.bureau archive
 
 Each job is run again as check does. For each one that is as it ran a folder
-FOLDER/CUSTOMER/NUMBER is written, with deck.text (as it was submitted),
-loaded.text (as the machine read it), lines.text, cards.punch, cards.text, and
-record: the customer, the number, the kind, the size, the switches and the
-granted instructions of each stretch, how the job stands, whether it is held and
-collected, and the SHA-256 of each file. A folder that is there already is
-compared and not written. The bureau's file is not changed. Status 1: something
-differs, or could not be written.
+FOLDER/CUSTOMER/NUMBER is written, a bag of BagIt 1.0 (RFC 8493). In its data/
+are deck.text (as it was submitted), loaded.text (as the machine read it),
+lines.text, cards.punch, cards.text, and record: the customer, the number, the
+kind, the size, the profile, the switches and the granted instructions of each
+stretch, how the job stands, whether it is held and collected, the pockets of
+its cards, and the SHA-256 of the other files. sha256sum -c reads record and the
+two manifests. A folder that is there already is compared and not written; which
+version of the program wrote it does not count. FOLDER/README.txt says how to
+read it all; one that is there stays. The bureau's file is not changed. Status
+1: something differs, or could not be written.
+";
+
+/// The text that `verify --help` prints.
+pub const VERIFY_HELP: &str = "\
+operator verify FOLDER: runs each job of an archive again from its own folder
+alone, and compares.
+
+FOLDER  the folder that archive wrote the jobs' folders into
+
+example:
+  operator verify archive
+
+The digests of each bag are checked. Then its job is run again from deck.text
+and record, and each file is compared with what the job makes; which version of
+the program wrote it does not count. A line is printed for each job, with all
+that is wrong, and at the end a sum. No bureau's file is needed, and nothing is
+changed. Status 1: something is wrong, or FOLDER has what is no job's folder.
+";
+
+/// The text that `restore --help` prints.
+pub const RESTORE_HELP: &str = "\
+operator restore FOLDER NEW: writes a new bureau's file with the jobs of an
+archive, handed in again.
+
+FOLDER  the folder that archive wrote the jobs' folders into
+NEW     the new file; no file of this name may be there
+
+example:
+  operator restore archive new.bureau
+  operator join my.bureau new.bureau both.bureau
+
+Each bag is verified as by verify. Its job is submitted, started and granted
+slices as its record says, held and collected too, customer by customer and in
+the order of the numbers. Then each job of NEW is compared with its bag. A line
+is printed for each job: that it is the same, or the first line in which its
+record differs, and whether its lines and cards are others. A job of profile 1
+is one of profile 2 then, and is told to differ. If restore is killed, NEW is
+not there, and NEW.part may be removed. Status 1: something differs, or a bag is
+wrong and its job is not in NEW. Status 3: NEW could not be made or is there
+already.
 ";
 
 /// The text that `work --help` prints.
@@ -205,6 +251,14 @@ answers is no bureau.
 /// The text that `--version` prints.
 pub const VERSION: &str = version_of!("operator");
 
+/// The program with its version, as the bags name it that it writes: what the version begins with.
+pub(crate) fn agent() -> &'static str {
+    match VERSION.split_once(" (") {
+        Some((agent, _)) => agent,
+        None => VERSION,
+    }
+}
+
 /// The help of a subcommand, or the whole help.
 pub(crate) fn page(subcommand: Option<Subcommand>) -> &'static str
     ensures { result.now ≡ page_of subcommand }
@@ -217,6 +271,8 @@ pub(crate) fn page(subcommand: Option<Subcommand>) -> &'static str
         Some(Subcommand::Part) => PART_HELP,
         Some(Subcommand::Join) => JOIN_HELP,
         Some(Subcommand::Archive) => ARCHIVE_HELP,
+        Some(Subcommand::Verify) => VERIFY_HELP,
+        Some(Subcommand::Restore) => RESTORE_HELP,
         Some(Subcommand::Work) => WORK_HELP,
         Some(Subcommand::Watch) => WATCH_HELP,
     }

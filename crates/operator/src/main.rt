@@ -9,6 +9,7 @@
 ghost use Rattle.std.specs.Prelude.{◌≡◌, false, IsTrue};
 
 mod archiving;
+mod bag_files;
 mod checking;
 mod clients;
 mod copy_faults;
@@ -16,13 +17,18 @@ mod copying;
 mod faults;
 mod help;
 mod job_folders;
+mod job_walks;
 mod joining;
 mod listing;
 mod parting;
+mod readme;
+mod restoring;
+mod shelves;
 mod subcommands;
 mod tallies;
 mod tasks;
 mod values;
+mod verifying;
 mod watching;
 mod working;
 
@@ -34,7 +40,9 @@ use crate::faults::done_or_told;
 use crate::joining::join_files;
 use crate::listing::show_jobs;
 use crate::parting::part_file;
+use crate::restoring::restore_shelf;
 use crate::tasks::{Task, task_of};
+use crate::verifying::verify_shelf;
 use crate::watching::watch_queue;
 use crate::working::run_queue;
 use command_line::{Mistake, Status, Unfailing, exit_code, show_text, tell_mistake};
@@ -87,12 +95,10 @@ fn carry_out<W: Write, E: Write>(
             join_files(rt, made, output, errors)
         }
         Task::Archive { file, folder } => archive_file(rt, file, folder, output, errors),
+        Task::Verify { folder } => verify_shelf(rt, folder, output, errors),
+        Task::Restore { folder, new } => restore_shelf(rt, folder, new, output, errors),
         Task::Work { port, rounds } => run_queue(rt, port, rounds, output, errors),
-        Task::Watch {
-            port,
-            rounds,
-            pause,
-        } => watch_queue(rt, port, rounds, pause, output, errors),
+        Task::Watch(watching) => watch_queue(rt, watching, output, errors),
     }
 }
 

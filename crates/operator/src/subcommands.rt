@@ -17,6 +17,10 @@ pub enum Subcommand {
     Join,
     /// `archive`.
     Archive,
+    /// `verify`.
+    Verify,
+    /// `restore`.
+    Restore,
     /// `work`.
     Work,
     /// `watch`.
@@ -24,7 +28,7 @@ pub enum Subcommand {
 }
 
 /// The subcommands.
-const SUBCOMMANDS: [Syntax<Subcommand>; 8] = [
+const SUBCOMMANDS: [Syntax<Subcommand>; 10] = [
     Syntax {
         subcommand: Subcommand::Check,
         name: "check",
@@ -69,6 +73,18 @@ const SUBCOMMANDS: [Syntax<Subcommand>; 8] = [
         name: "archive",
         arguments: &[("FILE", Kind::Value), ("FOLDER", Kind::Value)],
         usage: "archive FILE FOLDER",
+    },
+    Syntax {
+        subcommand: Subcommand::Verify,
+        name: "verify",
+        arguments: &[("FOLDER", Kind::Value)],
+        usage: "verify FOLDER",
+    },
+    Syntax {
+        subcommand: Subcommand::Restore,
+        name: "restore",
+        arguments: &[("FOLDER", Kind::Value), ("NEW", Kind::Value)],
+        usage: "restore FOLDER NEW",
     },
     Syntax {
         subcommand: Subcommand::Work,

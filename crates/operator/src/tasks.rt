@@ -4,7 +4,7 @@ ghost use Rattle.std.specs.Prelude.{IfOk};
 ghost use Rattle.command_line.specs.{Arguments.{given}, Plain.{texts}, Programs.{AsksFor, wish_as}};
 ghost use Rattle.operator.specs.{
   Subcommands.{operator},
-  Tasks.{AreRounds, IsPortIn, Wants, WantsArchive, WantsCheck, WantsCopy, WantsJobs, WantsJoin, WantsPart, WantsTask, WantsWatch, WantsWork},
+  Tasks.{AreRounds, IsPortIn, Wants, WantsArchive, WantsCheck, WantsCopy, WantsJobs, WantsJoin, WantsPart, WantsRestore, WantsTask, WantsVerify, WantsWatch, WantsWork},
 };
 
 use crate::help::{VERSION, page};
@@ -22,6 +22,17 @@ pub struct Rounds {
     /// After how many rounds the work ends; without a number when the queue is empty.
     pub most: Option<u32>,
     /// For how many seconds to wait before a request that failed is made again, 1 to 3,600.
+    pub pause: u32,
+}
+
+/// How a queue is watched.
+#[derive(Clone, Copy)]
+pub struct Watching {
+    /// The bureau's port on 127.0.0.1.
+    pub port: u16,
+    /// How often the queue is asked for; without a number on and on.
+    pub rounds: Option<u32>,
+    /// For how many seconds to wait before it is asked for again, 1 to 3,600.
     pub pause: u32,
 }
 
@@ -76,6 +87,18 @@ pub enum Task<'a> {
         /// The path of the folder that holds the jobs' folders.
         folder: &'a str,
     },
+    /// Run each job of a shelf again, and compare it with its bag.
+    Verify {
+        /// The path of the folder that holds the jobs' folders.
+        folder: &'a str,
+    },
+    /// Write a new bureau's file with the jobs of a shelf, handed in again.
+    Restore {
+        /// The path of the folder that holds the jobs' folders.
+        folder: &'a str,
+        /// The path of the new file.
+        new: &'a str,
+    },
     /// Run the queue of a bureau that is served.
     Work {
         /// Its port on 127.0.0.1.
@@ -84,14 +107,7 @@ pub enum Task<'a> {
         rounds: Rounds,
     },
     /// Tell what comes into the queue of a bureau that is served, and what leaves it.
-    Watch {
-        /// Its port on 127.0.0.1.
-        port: u16,
-        /// How often the queue is asked for; without a number on and on.
-        rounds: Option<u32>,
-        /// For how many seconds to wait before it is asked for again, 1 to 3,600.
-        pause: u32,
-    },
+    Watch(Watching),
 }
 
 /// What is said of a text that is no port.
@@ -158,6 +174,23 @@ fn archive_task<'a>(found: &Found<'a>) -> Result<Task<'a>, Mistake<'a>>
     Ok(Task::Archive { file, folder })
 }
 
+/// The task of a subcommand `verify`.
+fn verify_task<'a>(found: &Found<'a>) -> Result<Task<'a>, Mistake<'a>>
+    ensures { IfOk result (WantsVerify (given found.now)) }
+{
+    let folder = found.needed("FOLDER")?;
+    Ok(Task::Verify { folder })
+}
+
+/// The task of a subcommand `restore`.
+fn restore_task<'a>(found: &Found<'a>) -> Result<Task<'a>, Mistake<'a>>
+    ensures { IfOk result (WantsRestore (given found.now)) }
+{
+    let folder = found.needed("FOLDER")?;
+    let new = found.needed("NEW")?;
+    Ok(Task::Restore { folder, new })
+}
+
 /// The port in PORT of a subcommand.
 fn port_in(found: &Found<'_>) -> Result<u16, Mistake<'static>>
     ensures { IfOk result (IsPortIn (given found.now)) }
@@ -190,14 +223,11 @@ fn work_task<'a>(found: &Found<'a>) -> Result<Task<'a>, Mistake<'a>>
 fn watch_task<'a>(found: &Found<'a>) -> Result<Task<'a>, Mistake<'a>>
     ensures { IfOk result (WantsWatch (given found.now)) }
 {
-    let port = port_in(found)?;
-    let rounds = up_to_if(found, "rounds", 999_999_999)?;
-    let pause = up_to_or(found, "pause", 3_600, 5)?;
-    Ok(Task::Watch {
-        port,
-        rounds,
-        pause,
-    })
+    Ok(Task::Watch(Watching {
+        port: port_in(found)?,
+        rounds: up_to_if(found, "rounds", 999_999_999)?,
+        pause: up_to_or(found, "pause", 3_600, 5)?,
+    }))
 }
 
 /// The task of a subcommand, by what clap found after its name.
@@ -215,6 +245,8 @@ fn subcommand_task<'a>(
         Subcommand::Part => part_task(alloc, found),
         Subcommand::Join => join_task(found),
         Subcommand::Archive => archive_task(found),
+        Subcommand::Verify => verify_task(found),
+        Subcommand::Restore => restore_task(found),
         Subcommand::Work => work_task(found),
         Subcommand::Watch => watch_task(found),
     }

@@ -1,6 +1,7 @@
 //! The subcommand `watch`.
 
 use crate::clients::{QUEUE, ask};
+use crate::tasks::Watching;
 use command_line::Status;
 use queue_rounds::{JobName, Outcome, Standing, changes_between, outcome_of_queue, standing_of};
 use std::alloc::Global;
@@ -130,12 +131,15 @@ impl Watch {
 /// Prints what comes into the queue of the bureau that is served at a port, and what leaves it.
 pub(crate) fn watch_queue<W: Write, E: Write>(
     rt: &HostRuntime,
-    port: u16,
-    rounds: Option<u32>,
-    pause: u32,
+    watching: Watching,
     output: &mut W,
     errors: &mut E,
 ) -> io::Result<Status> {
+    let Watching {
+        port,
+        rounds,
+        pause,
+    } = watching;
     let mut watch = Watch {
         port,
         queue: Vec::new(rt.alloc()),

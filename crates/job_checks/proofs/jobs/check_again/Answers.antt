@@ -1,4 +1,4 @@
-use Rattle.std.proofs.Common.{◌≡◌, ℕ, List, All, sym, ap, subst, ◌∙◌}
+use Rattle.std.proofs.Common.{◌≡◌, List, All, sym, ap, subst, ◌∙◌}
 use Rattle.cards.specs.declared.decks.Card.{Card}
 use Rattle.machine.specs.Run.{State, lines_of, loaded}
 use Rattle.ledger_rows.specs.Columns.{HoldsCharacters, IsLine}
@@ -14,8 +14,8 @@ use Rattle.job_checks.proofs.DifferLemmas.{if_differs_any}
 use Rattle.job_checks.proofs.JobLemmas.{came_to, come_to, run_as}
 use Rattle.job_checks.proofs.jobs.check_again.Goals as goal
 
-pub new-run-requires : goal.new-run-requires
-new-run-requires c =
+pub of-requires : goal.of-requires
+of-requires c =
     let loading = c.in_ok-loaded.ensures.loading in
     let made = c.in_ok-check_machine.ensures in
     let all = tables_of c.args.rows.now in
@@ -26,18 +26,13 @@ new-run-requires c =
     let stretches = c.args.stretches.items in
     let m = c.in_ok-machine.machine in
     let same = c.parts.ensures.picture in
-    let came = come_to all c.args.row.now customer number numbers c.args.submitted.deck c.in_ok-loaded.loaded.loaded _ _ profile stretches m
-    loading.0 loading.1 loading.2 c.in_ok-check_row.ensures.same
-    (subst (λ (xs : List Stretch). rows_of customer number all.stretches ≡ rows_of_stretches customer number xs) c.deref-2.ensures.value
-    (subst (λ (rows : List Row). rows_of customer number rows ≡ rows_of_stretches customer number c.deref-2.result.now) c.deref.ensures.value c.in_ok-check_stretches.ensures.same))
+    let came = come_to customer number numbers c.args.submitted.deck c.in_ok-loaded.loaded.loaded profile stretches m loading.0
     (subst (λ (xs : List Stretch). HasResumed (loaded c.in_ok-loaded.loaded.loaded numbers.size all_off profile) xs m) c.deref-3.ensures.value c.in_ok-machine.ensures.resumed)
-    (subst (HasMachine customer number all) same made.rows)
     (subst (λ (s : State). All IsPunched s.works.units.punch.cards) same made.cards)
     (subst (λ (s : State). All IsLine (lines_of s)) same made.lines)
     (subst (λ (s : State). HoldsCharacters s.works.storage) same made.characters)
     (record { customer = c.requires.lawful_text; number = c.requires.lawful_int }) in
-    subst (λ (who : List ℕ). HasComeTo (entry_of who number numbers c.in_ok-loaded.loaded.deck profile stretches) m) (sym c.in_ok-customer.ensures.ok)
-    (subst (λ (deck : List Card). HasComeTo (entry_of customer number numbers deck profile stretches) m) (sym c.in_ok-loaded.ensures.same) came)
+    subst (λ (deck : List Card). HasComeTo (entry_of customer number numbers deck profile stretches) m) (sym c.in_ok-loaded.ensures.same) came
 
 pub returns-clause-kept : goal.returns-clause-kept
 returns-clause-kept c =
@@ -51,18 +46,17 @@ returns-clause-kept c =
     let stretches = c.args.stretches.items in
     let m = c.in_ok-machine.machine in
     let same = c.parts.ensures.picture in
-    let ran = run_as all c.args.row.now customer number numbers c.args.submitted.deck c.in_ok-loaded.loaded.loaded _ _ profile stretches m
-    loading.0 loading.1 loading.2 c.in_ok-check_row.ensures.same
-    (subst (λ (xs : List Stretch). rows_of customer number all.stretches ≡ rows_of_stretches customer number xs) c.deref-2.ensures.value
-    (subst (λ (rows : List Row). rows_of customer number rows ≡ rows_of_stretches customer number c.deref-2.result.now) c.deref.ensures.value c.in_ok-check_stretches.ensures.same))
+    let ran = run_as customer number numbers c.args.submitted.deck c.in_ok-loaded.loaded.loaded profile stretches m loading.0
     (subst (λ (xs : List Stretch). HasResumed (loaded c.in_ok-loaded.loaded.loaded numbers.size all_off profile) xs m) c.deref-3.ensures.value c.in_ok-machine.ensures.resumed)
-    (subst (HasMachine customer number all) same made.rows)
     (subst (λ (s : State). All IsPunched s.works.units.punch.cards) same made.cards)
     (subst (λ (s : State). All IsLine (lines_of s)) same made.lines)
-    (subst (λ (s : State). HoldsCharacters s.works.storage) same made.characters) in
-    let is : c.new-run.result ≡ entry_of customer number numbers c.args.submitted.deck profile stretches =
-    c.new-run.ensures ∙ ap (λ (who : List ℕ). entry_of who number numbers c.in_ok-loaded.loaded.deck profile stretches) c.in_ok-customer.ensures.ok
-    ∙ ap (λ (deck : List Card). entry_of customer number numbers deck profile stretches) c.in_ok-loaded.ensures.same in
+    (subst (λ (s : State). HoldsCharacters s.works.storage) same made.characters)
+    all c.args.row.now _ _ loading.1 loading.2 c.in_ok-check_row.ensures.same
+    (subst (λ (xs : List Stretch). rows_of customer number all.stretches ≡ rows_of_stretches customer number xs) c.deref-2.ensures.value
+    (subst (λ (rows : List Row). rows_of customer number rows ≡ rows_of_stretches customer number c.deref-2.result.now) c.deref.ensures.value c.in_ok-check_stretches.ensures.same))
+    (subst (HasMachine customer number all) same made.rows) in
+    let is : c.in_ok-run.run' ≡ entry_of customer number numbers c.args.submitted.deck profile stretches =
+    c.in_ok-run.ensures ∙ ap (λ (deck : List Card). entry_of customer number numbers deck profile stretches) c.in_ok-loaded.ensures.same in
     subst (HasRunAs all c.args.row.now) (sym is) ran
 
 pub returns-in_err-check_machine-clause-other : goal.returns-in_err-check_machine-clause-other

@@ -1,5 +1,3 @@
-use Rattle.std.proofs.Common.{Result, IfOk, IfErr}
-use Rattle.ledger_tables.proofs.Stepping.{if_ok_then}
 use Rattle.job_checks.specs.Tables.{tables_of}
 use Rattle.job_checks.proofs.FoundLemmas.{found_by}
 use Rattle.job_checks.proofs.jobs.read_and_run.Goals as goal

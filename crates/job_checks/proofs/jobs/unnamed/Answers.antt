@@ -1,5 +1,5 @@
 use Rattle.ledger_tables.proofs.Stepping.{if_ok_then}
-use Rattle.std.proofs.Common.{subst, sym}
+use Rattle.std.proofs.Common.{subst}
 use Rattle.job_checks.specs.Outcomes.{IsAsItRan}
 use Rattle.job_checks.proofs.FoundLemmas.{found_none}
 use Rattle.job_checks.proofs.jobs.unnamed.Goals as goal
