@@ -1,40 +1,42 @@
 -- slices and rounds
 use Rattle.std.proofs.Common.{◌≡◌, ℕ, ◌+◌, ◌≤◌, Bool, true, false, if◌then◌else◌, List, [], ◌∷◌, refl, arith}
 use Rattle.std.specs.Prelude.{Option}
-use Rattle.queue_rounds.specs.Rounds.{State, after, listed, start, turned}
+use Rattle.queue_rounds.specs.Rounds.{State, after, listed, start, turn_of, turned}
 use Rattle.queue_rounds.specs.Runs.{after_all, begins, count, first_of, listed_by, sliced_by, total}
 use Rattle.queue_rounds.specs.declared.jobs.JobName.{JobName}
 use Rattle.queue_rounds.specs.declared.replies.Outcome.{Outcome}
 use Rattle.queue_rounds.specs.declared.replies.Outcome.TheVariants.{Listed, Ran, Passed, Nothing, Foreign}
+use Rattle.queue_rounds.specs.declared.turns.Turn.{Turn}
+use Rattle.queue_rounds.specs.declared.turns.Turn.TheVariants as turn
 
 -- the work with these parts
-abbrev pub at : List JobName → Option ℕ → Bool → ℕ → ℕ → State
-at w l r p t = record { waiting = w; left = l; ran = r; patience = p; tries = t }
+abbrev pub at : Bool → List JobName → Option ℕ → Bool → Bool → ℕ → ℕ → State
+at k w l r o p t = record { keeps = k; waiting = w; left = l; ran = r; passed = o; patience = p; tries = t }
 
 -- a queue lists jobs where none waits, and else changes nothing
-listing : (is : JobName → Bool) (w : List JobName) (l : Option ℕ) (r : Bool) (p t : ℕ) (jobs : List JobName)
-    → count is (listed (at w l r p t) jobs).waiting ≡ count is w + (if begins (at w l r p t) jobs then count is jobs else 0)
+listing : (is : JobName → Bool) (k : Bool) (w : List JobName) (l : Option ℕ) (r o : Bool) (p t : ℕ) (jobs : List JobName)
+    → count is (listed (at k w l r o p t) jobs).waiting ≡ count is w + (if begins (at k w l r o p t) jobs then count is jobs else 0)
 unfolding count
-listing is [] l r p t [] = refl
-listing is [] l r p t (job ∷ jobs) = omega arith
-listing is (first ∷ w) l r p t [] = omega arith
-listing is (first ∷ w) l r p t (job ∷ jobs) = omega arith
+listing is k [] l r o p t [] = refl
+listing is k [] l r o p t (job ∷ jobs) = omega arith
+listing is k (first ∷ w) l r o p t [] = omega arith
+listing is k (first ∷ w) l r o p t (job ∷ jobs) = omega arith
 
 -- a turn is that of the first job that waits
-turning : (is : JobName → Bool) (w : List JobName) (l : Option ℕ) (r : Bool) (p t : ℕ) (ran : Bool)
-    → first_of is w + count is (turned ran (at w l r p t)).waiting ≡ count is w
+turning : (is : JobName → Bool) (k : Bool) (w : List JobName) (l : Option ℕ) (r o : Bool) (p t : ℕ) (it : Turn)
+    → first_of is w + count is (turned it (at k w l r o p t)).waiting ≡ count is w
 unfolding count
-turning is [] l r p t ran = refl
-turning is (job ∷ []) l r p t ran = omega arith
-turning is (job ∷ other ∷ rest) l r p t ran = omega arith
+turning is k [] l r o p t it = refl
+turning is k (job ∷ []) l r o p t it = omega arith
+turning is k (job ∷ other ∷ rest) l r o p t it = omega arith
 
-one_answer : (is : JobName → Bool) (w : List JobName) (l : Option ℕ) (r : Bool) (p t : ℕ) (outcome : Outcome)
-    → sliced_by is (at w l r p t) outcome + count is (after (at w l r p t) outcome).waiting ≡ count is w + listed_by is (at w l r p t) outcome
-one_answer is w l r p t (Listed jobs) = omega (arith, listing is w l r p t jobs.items)
-one_answer is w l r p t (Ran it) = omega (arith, turning is w l r p t true)
-one_answer is w l r p t (Passed it) = omega (arith, turning is w l r p t false)
-one_answer is w l r p t Nothing = omega arith
-one_answer is w l r p t Foreign = omega arith
+one_answer : (is : JobName → Bool) (k : Bool) (w : List JobName) (l : Option ℕ) (r o : Bool) (p t : ℕ) (outcome : Outcome)
+    → sliced_by is (at k w l r o p t) outcome + count is (after (at k w l r o p t) outcome).waiting ≡ count is w + listed_by is (at k w l r o p t) outcome
+one_answer is k w l r o p t (Listed jobs) = omega (arith, listing is k w l r o p t jobs.items)
+one_answer is k w l r o p t (Ran it) = omega (arith, turning is k w l r o p t turn.Ran)
+one_answer is k w l r o p t (Passed why) = omega (arith, turning is k w l r o p t (turn_of why))
+one_answer is k w l r o p t Nothing = omega arith
+one_answer is k w l r o p t Foreign = omega arith
 
 -- what was listed had its slice, or waits
 all_answers : (is : JobName → Bool) (s : State) (answers : List Outcome)
@@ -42,15 +44,15 @@ all_answers : (is : JobName → Bool) (s : State) (answers : List Outcome)
 unfolding total after_all
 all_answers is s [] = omega arith
 all_answers is s (outcome ∷ rest) =
-    omega (arith, one_answer is s.waiting s.left s.ran s.patience s.tries outcome, all_answers is (after s outcome) rest)
+    omega (arith, one_answer is s.keeps s.waiting s.left s.ran s.passed s.patience s.tries outcome, all_answers is (after s outcome) rest)
 
-pub once : (most : Option ℕ) (is : JobName → Bool) (answers : List Outcome)
-    → total (sliced_by is) (start most) answers + count is (after_all (start most) answers).waiting ≡ total (listed_by is) (start most) answers
+pub once : (most : Option ℕ) (keeps : Bool) (is : JobName → Bool) (answers : List Outcome)
+    → total (sliced_by is) (start most keeps) answers + count is (after_all (start most keeps) answers).waiting ≡ total (listed_by is) (start most keeps) answers
 unfolding count
-once most is answers = omega (arith, all_answers is (start most) answers)
+once most keeps is answers = omega (arith, all_answers is (start most keeps) answers)
 
-pub fair : (most : Option ℕ) (is other : JobName → Bool) (answers : List Outcome)
-    → total (listed_by is) (start most) answers ≡ total (listed_by other) (start most) answers
-    → count other (after_all (start most) answers).waiting ≤ 1
-    → total (sliced_by is) (start most) answers ≤ total (sliced_by other) (start most) answers + 1
-fair most is other answers same one = omega (arith, once most is answers, once most other answers)
+pub fair : (most : Option ℕ) (keeps : Bool) (is other : JobName → Bool) (answers : List Outcome)
+    → total (listed_by is) (start most keeps) answers ≡ total (listed_by other) (start most keeps) answers
+    → count other (after_all (start most keeps) answers).waiting ≤ 1
+    → total (sliced_by is) (start most keeps) answers ≤ total (sliced_by other) (start most keeps) answers + 1
+fair most keeps is other answers same one = omega (arith, once most keeps is answers, once most keeps other answers)

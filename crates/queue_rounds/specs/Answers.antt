@@ -40,16 +40,29 @@ name_in value = option_and_then
     (λ customer. option_and_then (name_with customer) (number_at (codes "number") value))
     (text_at (codes "customer") value)
 
--- the names that the items of a queue tell, if each tells one
-unfoldable pub names_in : Items → Option (List Name)
-names_in no_items = Some []
-names_in (item value rest) = option_and_then
-    (λ name. option_map (λ names. name ∷ names) (names_in rest)) (name_in value)
+-- what a rule reads of each of these items, if it reads something of each
+unfoldable pub each_in : {X : Type 0} → (Data → Option X) → Items → Option (List X)
+each_in rule no_items = Some []
+each_in rule (item value rest) = option_and_then
+    (λ found. option_map (λ more. found ∷ more) (each_in rule rest)) (rule value)
 
 -- the jobs of the queue that a value is
 abbrev pub queue_in : Data → Option (List Name)
 queue_in value =
-    option_and_then names_in (option_and_then as_array (get (codes "queue") value))
+    option_and_then (each_in name_in) (option_and_then as_array (get (codes "queue") value))
+
+-- a number, if a bureau's job can have it
+abbrev pub numbered : ℕ → Option ℕ
+numbered number = if is_number number then Some number else None
+
+-- the number of the job that an item of a customer's jobs tells
+abbrev pub job_number_in : Data → Option ℕ
+job_number_in value = option_and_then numbered (number_at (codes "number") value)
+
+-- the numbers of the customer's jobs that a value is
+abbrev pub jobs_in : Data → Option (List ℕ)
+jobs_in value =
+    option_and_then (each_in job_number_in) (option_and_then as_array (get (codes "jobs") value))
 
 -- the instructions that a slice executed, and how its job stands then
 abbrev pub ran_in : Data → Option (ℕ × List ℕ)

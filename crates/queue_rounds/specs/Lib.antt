@@ -6,3 +6,4 @@ pub mod Replies
 pub mod Responses
 pub mod Rounds
 pub mod Runs
+pub mod Tables

@@ -1,6 +1,6 @@
 -- what a bureau's replies to the requests of the work on its queue say
 use Rattle.std.specs.Prelude.{ℕ, ◌≡◌, ◌≢◌, ◌&&◌, Bool, true, false, List, Option, Some, None, map, nat_le, option_map, string_bytes}
-use Rattle.queue_rounds.specs.Answers.{Tells, queue_in, ran_in, refusal_in, standing_in}
+use Rattle.queue_rounds.specs.Answers.{Tells, jobs_in, queue_in, ran_in, refusal_in, standing_in}
 use Rattle.queue_rounds.specs.Names.{name_of}
 use Rattle.queue_rounds.specs.Standings.{stands}
 use Rattle.queue_rounds.specs.declared.replies.Outcome.{Outcome}
@@ -60,6 +60,17 @@ abbrev pub IsSliceRead : Reply → Outcome → Type 0
 IsSliceRead reply.Unsent it = it ≡ outcome.Nothing
 IsSliceRead reply.Lost it = it ≡ outcome.Passed passed.Lost
 IsSliceRead (reply.Replied status body) it = IsSliceReplied status body.items it
+
+-- a status and a body say the numbers of a customer's jobs, or nothing of them
+pub record AreJobsReplied (status : ℕ) (body : List ℕ) (it : Option (List ℕ)) : Type 0 where
+  pub told : status ≡ 200 → Tells jobs_in body it
+  pub other : status ≢ 200 → it ≡ None
+
+-- the numbers of a customer's jobs by the reply to the request for them
+abbrev pub AreJobsRead : Reply → Option (List ℕ) → Type 0
+AreJobsRead reply.Unsent it = it ≡ None
+AreJobsRead reply.Lost it = it ≡ None
+AreJobsRead (reply.Replied status body) it = AreJobsReplied status body.items it
 
 -- a status and a body say how a job stands, or nothing of it
 pub record IsStandingReplied (status : ℕ) (body : List ℕ) (it : Option Standing) : Type 0 where

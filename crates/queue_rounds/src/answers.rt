@@ -3,7 +3,7 @@
 ghost use Rattle.std.specs.Prelude.{◌≡◌, Some, All, IfOk, IfSome, option_map, map, string_bytes};
 ghost use Rattle.serde_json.specs.{Data.{Data}, View.{items_view, view}};
 ghost use Rattle.queue_rounds.specs.{
-  Answers.{Tells, name_in, names_in, number_at, queue_in, ran_in, refusal_in, standing_at, text_at},
+  Answers.{Tells, each_in, job_number_in, jobs_in, name_in, number_at, queue_in, ran_in, refusal_in, standing_at, text_at},
   Names.{IsName, name_of},
 };
 
@@ -99,7 +99,7 @@ fn job_in(alloc: Global, item: &Value) -> Result<Option<JobName>, AllocError>
 /// The jobs in the items of a queue, if each is one.
 fn jobs_in(alloc: Global, items: &[Value]) -> Result<Option<Vec<JobName>>, AllocError>
     ensures told { IfOk result (λ found.
-        option_map (λ jobs. map name_of jobs.items) found ≡ names_in (items_view items.now)) }
+        option_map (λ jobs. map name_of jobs.items) found ≡ each_in name_in (items_view items.now)) }
     ensures are_names { IfOk result (λ found. IfSome found (λ jobs. All IsName jobs.items)) }
 {
     let mut jobs = Vec::new(alloc);
@@ -136,6 +136,61 @@ pub fn read_queue(alloc: Global, body: &[u8]) -> Result<Option<Vec<JobName>>, Al
 {
     match read(alloc, body)? {
         Some(value) => queue_in(alloc, &value),
+        None => Ok(None),
+    }
+}
+
+/// The number of the job in an item of a customer's jobs, if a bureau's job can have it.
+fn job_number_in(item: &Value) -> Option<u32>
+    ensures { result ≡ job_number_in (view item.now) }
+{
+    let Some(number) = number_at(item, "number") else {
+        return None;
+    };
+    if is_number(number) {
+        Some(number)
+    } else {
+        None
+    }
+}
+
+/// The numbers in the items of a customer's jobs, if each has one.
+fn job_numbers_in(alloc: Global, items: &[Value]) -> Result<Option<Vec<u32>>, AllocError>
+    ensures { IfOk result (λ found.
+        option_map (λ numbers. numbers.items) found ≡ each_in job_number_in (items_view items.now)) }
+{
+    let mut numbers = Vec::new(alloc);
+    for item in items {
+        match job_number_in(item) {
+            Some(number) => numbers.push(number)?,
+            None => return Ok(None),
+        }
+    }
+    Ok(Some(numbers))
+}
+
+/// The numbers of the customer's jobs that a value is, if it is that.
+fn jobs_of_customer_in(alloc: Global, value: &Value) -> Result<Option<Vec<u32>>, AllocError>
+    ensures { IfOk result (λ found.
+        option_map (λ numbers. numbers.items) found ≡ jobs_in (view value.now)) }
+{
+    let Some(jobs) = value.get("jobs") else {
+        return Ok(None);
+    };
+    match jobs.as_array() {
+        Some(items) => job_numbers_in(alloc, items),
+        None => Ok(None),
+    }
+}
+
+/// Returns the numbers of the customer's jobs that a body tells, in its order; none if it tells no
+/// such jobs. Fails only if there is no memory.
+pub fn read_jobs(alloc: Global, body: &[u8]) -> Result<Option<Vec<u32>>, AllocError>
+    ensures { IfOk result (λ found.
+        Tells jobs_in body.now (option_map (λ numbers. numbers.items) found)) }
+{
+    match read(alloc, body)? {
+        Some(value) => jobs_of_customer_in(alloc, &value),
         None => Ok(None),
     }
 }

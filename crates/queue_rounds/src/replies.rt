@@ -1,9 +1,9 @@
 //! What a bureau answers to the requests of the work on its queue.
 
-ghost use Rattle.std.specs.Prelude.{◌≡◌, IfOk};
-ghost use Rattle.queue_rounds.specs.Replies.{IsQueueRead, IsQueueReplied, IsSliceRead, IsSlicePassed, IsSliceReplied, IsStandingRead, IsStandingReplied, is_failure};
+ghost use Rattle.std.specs.Prelude.{◌≡◌, IfOk, option_map};
+ghost use Rattle.queue_rounds.specs.Replies.{AreJobsRead, AreJobsReplied, IsQueueRead, IsQueueReplied, IsSliceRead, IsSlicePassed, IsSliceReplied, IsStandingRead, IsStandingReplied, is_failure};
 
-use crate::answers::{Ran, read_queue, read_ran, read_refusal};
+use crate::answers::{Ran, read_jobs, read_queue, read_ran, read_refusal};
 use crate::jobs::JobName;
 use crate::standings::{Standing, read_standing};
 use std::alloc::{AllocError, Global};
@@ -117,6 +117,29 @@ pub fn outcome_of_slice(alloc: Global, reply: &Reply) -> Result<Outcome, AllocEr
         Reply::Unsent => Ok(Outcome::Nothing),
         Reply::Lost => Ok(Outcome::Passed(Passed::Lost)),
         Reply::Replied { status, body } => outcome_of_slice_body(alloc, *status, body),
+    }
+}
+
+/// The numbers of a customer's jobs, as a status and a body say.
+fn jobs_of_body(alloc: Global, status: u16, body: &[u8]) -> Result<Option<Vec<u32>>, AllocError>
+    ensures { IfOk result (λ found.
+        AreJobsReplied status body.now (option_map (λ numbers. numbers.items) found)) }
+{
+    if status == 200 {
+        return read_jobs(alloc, body);
+    }
+    Ok(None)
+}
+
+/// Returns the numbers of a customer's jobs by the reply to the request for them; none if that does
+/// not say them. Fails only if there is no memory.
+pub fn jobs_of(alloc: Global, reply: &Reply) -> Result<Option<Vec<u32>>, AllocError>
+    ensures { IfOk result (λ found.
+        AreJobsRead reply.now (option_map (λ numbers. numbers.items) found)) }
+{
+    match reply {
+        Reply::Replied { status, body } => jobs_of_body(alloc, *status, body),
+        _ => Ok(None),
     }
 }
 

@@ -1,11 +1,13 @@
 //! The rounds in which the queue of a bureau is run.
 
-ghost use Rattle.std.specs.Prelude.{◌≡◌, option_copied, slice_get};
-ghost use Rattle.queue_rounds.specs.Rounds.{after, idle_rounds, ended, ended_next, failed, failed_next, is_last, listed, listed_next, next_after, one_less, start, state_of, turned, turned_next};
+ghost use Rattle.std.specs.Prelude.{◌≡◌, ◌-◌, ◌||◌, if◌then◌else◌, option_copied, slice_get};
+ghost use Rattle.queue_rounds.specs.Rounds.{after, idle_next, idle_rounds, ended, ended_next, failed, failed_next, has_run, is_last, is_passed_over, is_spent, listed, listed_next, next_after, one_less, spent_next, start, state_of, turn_of, turned, turned_next};
+ghost use Rattle.queue_rounds.specs.declared.rounds.Next.TheVariants.{End, Pause};
+ghost use Rattle.queue_rounds.specs.declared.rounds.Why.TheVariants as why;
 
 use crate::jobs::JobName;
-use crate::replies::Outcome;
-use crate::turns::Turns;
+use crate::replies::{Outcome, Passed};
+use crate::turns::{Turn, Turns};
 use std::alloc::Global;
 
 /// How often in a row a request that failed is made again.
@@ -21,8 +23,10 @@ pub enum Why {
     Empty,
     /// As many rounds were done as were asked for, and a slice ran in the last.
     Rounds,
-    /// No slice ran in the last rounds, which are [`MOST_BARREN`], or fewer if no more were asked
-    /// for.
+    /// Each job in the queue was granted all the instructions that a job can be.
+    Spent,
+    /// No slice ran in the last rounds, though there were jobs that can be granted more. The rounds
+    /// are [`MOST_BARREN`], or fewer if no more were asked for.
     Idle,
     /// A request failed, and failed again [`MOST_TRIES`] times.
     Away,
@@ -45,15 +49,44 @@ pub enum Next {
 /// the answers.
 #[derive(Drop)]
 pub struct Rounds {
+    /// Whether the work is kept up when there is nothing to run.
+    keeps: bool,
     turns: Turns,
     /// How many rounds may still be begun, if there is a limit.
     left: Option<u32>,
     /// Whether a slice of this round ran.
     ran: bool,
-    /// How many rounds in a row may still be without a slice that runs.
+    /// Whether a job of this round was passed over that can be granted more.
+    passed: bool,
+    /// How many rounds in a row may still be without a slice that runs, though there are such jobs.
     patience: u32,
     /// How many requests in a row may still fail.
     tries: u32,
+}
+
+/// The number of the refusal of a slice whose job was granted all the instructions that a job can
+/// be.
+const TOO_MUCH: u32 = 28;
+
+/// Whether a job was granted all the instructions that a job can be, by why its slice did not run.
+pub fn is_spent(passed: Passed) -> bool
+    ensures { result ≡ is_spent passed }
+{
+    match passed {
+        Passed::Refused(number) => number == TOO_MUCH,
+        _ => false,
+    }
+}
+
+/// What came of a turn in which no slice ran.
+fn turn_of(passed: Passed) -> Turn
+    ensures { result ≡ turn_of passed }
+{
+    if is_spent(passed) {
+        Turn::Spent
+    } else {
+        Turn::PassedOver
+    }
 }
 
 /// A number of rounds less one.
@@ -67,14 +100,17 @@ fn one_less(left: Option<u32>) -> Option<u32>
 }
 
 impl Rounds {
-    /// No round was begun; so many may be, if there is a limit.
-    pub fn new(alloc: Global, most: Option<u32>) -> Rounds
-        ensures { state_of result ≡ start most }
+    /// No round was begun; so many may be, if there is a limit. Where the work is kept up, it goes
+    /// on when there is nothing to run.
+    pub fn new(alloc: Global, most: Option<u32>, keeps: bool) -> Rounds
+        ensures { state_of result ≡ start most keeps }
     {
         Rounds {
+            keeps,
             turns: Turns::new(alloc),
             left: most,
             ran: false,
+            passed: false,
             patience: MOST_BARREN,
             tries: MOST_TRIES,
         }
@@ -107,12 +143,49 @@ impl Rounds {
             return Next::GoOn;
         }
         if jobs.is_empty() {
-            return Next::End(Why::Empty);
+            return self.empty();
         }
         self.turns.outcome_of_queue(jobs);
         self.left = one_less(self.left);
         self.ran = false;
+        self.passed = false;
         Next::GoOn
+    }
+
+    /// What follows on an empty queue.
+    fn empty(&self) -> Next
+        ensures { result ≡ (if self.now.keeps then Pause else End why.Empty) }
+    {
+        if self.keeps {
+            Next::Pause
+        } else {
+            Next::End(Why::Empty)
+        }
+    }
+
+    /// What follows on a round in which each job was granted all already.
+    fn spent(&self) -> Next
+        ensures { result ≡ spent_next (state_of self.now) }
+    {
+        if !self.keeps || self.is_last() {
+            Next::End(Why::Spent)
+        } else {
+            Next::Pause
+        }
+    }
+
+    /// Counts a round in which no slice ran, though there were jobs that can be granted more.
+    fn idle(&mut self) -> Next
+        ensures state { state_of self.new
+            ≡ record (state_of self.old) { patience = (state_of self.old).patience - 1 } }
+        ensures next { result ≡ idle_next (state_of self.old) }
+    {
+        self.patience = self.patience.saturating_sub(1);
+        if self.patience == 0 || self.is_last() {
+            Next::End(Why::Idle)
+        } else {
+            Next::Pause
+        }
     }
 
     /// Ends a round.
@@ -120,43 +193,53 @@ impl Rounds {
         ensures state { state_of self.new ≡ ended (state_of self.old) }
         ensures next { result ≡ ended_next (state_of self.old) }
     {
-        let is_last = self.is_last();
         if self.ran {
             self.patience = MOST_BARREN;
-            return if is_last {
+            return if self.is_last() {
                 Next::End(Why::Rounds)
             } else {
                 Next::GoOn
             };
         }
-        self.patience = self.patience.saturating_sub(1);
-        if self.patience == 0 || is_last {
-            Next::End(Why::Idle)
-        } else {
-            Next::Pause
+        if self.passed {
+            return self.idle();
         }
+        self.spent()
     }
 
-    /// How many rounds in a row, up to now, were without a slice that ran.
+    /// How many rounds in a row, up to now, were without a slice that ran, though there were jobs
+    /// that can be granted more.
     pub fn idle_rounds(&self) -> u32
         ensures { result ≡ idle_rounds (state_of self.now) }
     {
         MOST_BARREN.saturating_sub(self.patience)
     }
 
-    /// The first job that waited had its turn, in which its slice ran or did not.
-    fn take_turn(&mut self, ran: bool) -> Next
-        ensures state { state_of self.new ≡ turned ran (state_of self.old) }
-        ensures next { result ≡ turned_next ran (state_of self.old) }
+    /// Notes what came of a turn of this round.
+    fn note(&mut self, turn: Turn)
+        ensures { state_of self.new ≡ record (state_of self.old) {
+          ran = (state_of self.old).ran || has_run turn;
+          passed = (state_of self.old).passed || is_passed_over turn;
+        } }
+    {
+        match turn {
+            Turn::Ran => self.ran = true,
+            Turn::Spent => {}
+            Turn::PassedOver => self.passed = true,
+        }
+    }
+
+    /// The first job that waited had its turn.
+    fn take_turn(&mut self, turn: Turn) -> Next
+        ensures state { state_of self.new ≡ turned turn (state_of self.old) }
+        ensures next { result ≡ turned_next turn (state_of self.old) }
     {
         self.tries = MOST_TRIES;
         if self.turns.is_over() {
             return Next::GoOn;
         }
         self.turns.outcome_of_slice();
-        if ran {
-            self.ran = true;
-        }
+        self.note(turn);
         if self.turns.is_over() {
             return self.end_round();
         }
@@ -182,8 +265,8 @@ impl Rounds {
     {
         match outcome {
             Outcome::Listed(jobs) => self.begin(jobs),
-            Outcome::Ran(_) => self.take_turn(true),
-            Outcome::Passed(_) => self.take_turn(false),
+            Outcome::Ran(_) => self.take_turn(Turn::Ran),
+            Outcome::Passed(passed) => self.take_turn(turn_of(passed)),
             Outcome::Nothing => self.fail(),
             Outcome::Foreign => Next::End(Why::Foreign),
         }

@@ -6,6 +6,17 @@ ghost use Rattle.queue_rounds.specs.Rounds.{behind_first, is_empty, waiting_or};
 use crate::jobs::JobName;
 use std::alloc::Global;
 
+/// What came of the turn of a job.
+#[derive(Clone, Copy)]
+pub enum Turn {
+    /// Its slice ran.
+    Ran,
+    /// It was granted all the instructions already that a job can be.
+    Spent,
+    /// Its slice did not run for another reason.
+    PassedOver,
+}
+
 /// The jobs that wait for their slice of a round, in the order of the queue.
 #[derive(Drop)]
 pub struct Turns {
