@@ -58,14 +58,21 @@ operator = record {
         name.Work,
         codes "work",
         (codes "PORT", Value) ∷ (codes "slice", Setting) ∷ (codes "rounds", Setting)
-            ∷ (codes "pause", Setting) ∷ [],
-        codes "work PORT [--slice N] [--rounds N] [--pause SECONDS]",
+            ∷ (codes "pause", Setting) ∷ (codes "keep", Flag) ∷ [],
+        codes "work PORT [--slice N] [--rounds N] [--pause SECONDS] [--keep]",
       )
       ∷ (
         name.Watch,
         codes "watch",
         (codes "PORT", Value) ∷ (codes "rounds", Setting) ∷ (codes "pause", Setting) ∷ [],
         codes "watch PORT [--rounds N] [--pause SECONDS]",
+      )
+      ∷ (
+        name.Class,
+        codes "class",
+        (codes "PORT", Value) ∷ (codes "NAMES", Value) ∷ (codes "PAGE", Further)
+            ∷ (codes "watch", Flag) ∷ (codes "pause", Setting) ∷ [],
+        codes "class PORT NAMES [PAGE] [--watch] [--pause SECONDS]",
       )
       ∷ [];
 }

@@ -9,7 +9,7 @@ use Rattle.operator.specs.Values.{IsUpTo}
 use Rattle.operator.specs.declared.subcommands.Subcommand.{Subcommand}
 use Rattle.operator.specs.declared.subcommands.Subcommand.TheVariants as name
 use Rattle.operator.specs.declared.tasks.Task.{Task}
-use Rattle.operator.specs.declared.tasks.Task.TheVariants.{Show, Check, Jobs, Copy, Part, Join, Archive, Verify, Restore, Work, Watch}
+use Rattle.operator.specs.declared.tasks.Task.TheVariants.{Show, Check, Jobs, Copy, Part, Join, Archive, Verify, Restore, Work, Watch, Class}
 use Rattle.operator.specs.declared.tasks.Rounds.{Rounds}
 
 -- the task of `check`
@@ -72,6 +72,7 @@ pub record AreRounds (found : List Row) (rounds : Rounds) : Type 0 where
   pub slice : ReadsOr (IsUpTo 2000) 2000 (first_of (codes "slice") found) rounds.slice
   pub most : ReadsIf (IsUpTo 999999999) (first_of (codes "rounds") found) rounds.most
   pub pause : ReadsOr (IsUpTo 3600) 1 (first_of (codes "pause") found) rounds.pause
+  pub keeps : rounds.keeps ≡ has_flag (codes "keep") found
 
 -- the task of `work`
 abbrev pub WantsWork : List Row → Task → Type 0
@@ -85,6 +86,16 @@ WantsWatch found (Watch it) = IsPortIn found it.port
     × ReadsOr (IsUpTo 3600) 5 (first_of (codes "pause") found) it.pause
 WantsWatch found other = ⊥
 
+-- the task of `class`: with `--watch` again and again, five seconds between, where no others are
+-- given
+abbrev pub WantsClass : List Row → Task → Type 0
+WantsClass found (Class it) = IsPortIn found it.port
+    × HasArgument (codes "NAMES") found it.names.now
+    × MayHaveArgument (codes "PAGE") found it.page
+    × (it.watches ≡ has_flag (codes "watch") found)
+    × ReadsOr (IsUpTo 3600) 5 (first_of (codes "pause") found) it.pause
+WantsClass found other = ⊥
+
 -- the task of a subcommand, by what was found after its name
 abbrev pub WantsTask : Subcommand → List Row → Task → Type 0
 WantsTask name.Check found task = WantsCheck found task
@@ -97,6 +108,7 @@ WantsTask name.Verify found task = WantsVerify found task
 WantsTask name.Restore found task = WantsRestore found task
 WantsTask name.Work found task = WantsWork found task
 WantsTask name.Watch found task = WantsWatch found task
+WantsTask name.Class found task = WantsClass found task
 
 -- the task of what arguments can ask for
 abbrev pub IsTask : Wish Subcommand → Task → Type 0

@@ -1,6 +1,6 @@
 //! Requests to a bureau that is served.
 
-use queue_rounds::{Reply, read_reply};
+use queue_rounds::{Reply, Standing, jobs_of, read_reply, standing_of};
 use std::alloc::AllocError;
 use std::io;
 use std::io::{ErrorKind, Read, Write};
@@ -69,4 +69,31 @@ pub(crate) fn ask(rt: &HostRuntime, port: u16, request: &[u8]) -> Result<Reply, 
         Ok(bytes) => read_reply(rt.alloc(), &bytes),
         Err(_) => Ok(Reply::Lost),
     }
+}
+
+/// Asks how a job stands; none if that is not told.
+pub(crate) fn ask_standing(
+    rt: &HostRuntime,
+    port: u16,
+    customer: &str,
+    number: u32,
+) -> io::Result<Option<Standing>> {
+    let request = format!(in rt.alloc();
+        "GET /c/{customer}/j/{number} HTTP/1.1\r\nHost: localhost\r\n\r\n"
+    )?;
+    let reply = ask(rt, port, request.as_bytes())?;
+    Ok(standing_of(rt.alloc(), &reply)?)
+}
+
+/// Asks for the numbers of a customer's jobs; none if they are not told.
+pub(crate) fn ask_jobs(
+    rt: &HostRuntime,
+    port: u16,
+    customer: &str,
+) -> io::Result<Option<Vec<u32>>> {
+    let request = format!(in rt.alloc();
+        "GET /c/{customer}/jobs HTTP/1.1\r\nHost: localhost\r\n\r\n"
+    )?;
+    let reply = ask(rt, port, request.as_bytes())?;
+    Ok(jobs_of(rt.alloc(), &reply)?)
 }

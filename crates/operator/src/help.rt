@@ -24,6 +24,8 @@ usage: operator SUBCOMMAND ARGUMENTS.. [OPTIONS]
                           folder, handed in again
   work PORT [OPTIONS]     runs the queue of a bureau that is served, in turns
   watch PORT [OPTIONS]    tells what comes into that queue, and what leaves it
+  class PORT NAMES [PAGE] [OPTIONS]
+                          shows how the jobs of a list's customers stand
 
   operator SUBCOMMAND --help   prints the help of one subcommand (or -h)
   operator --help, --version   prints this text, or the version
@@ -194,15 +196,17 @@ already.
 
 /// The text that `work --help` prints.
 pub const WORK_HELP: &str = "\
-operator work PORT [--slice N] [--rounds N] [--pause SECONDS]: runs the queue of
-a bureau that is served, in fair turns.
+operator work PORT [--slice N] [--rounds N] [--pause SECONDS] [--keep]: runs the
+queue of a bureau that is served, in fair turns.
 
 PORT             the port on 127.0.0.1 at which bureau serve listens
 --slice N        the instructions of a slice, 1 to 2,000; without it 2,000
---rounds N       the work ends after so many rounds; without it when the queue
-                 is empty
+--rounds N       the work ends after so many rounds; without it when there is
+                 nothing to run
 --pause SECONDS  how long to wait after a request that failed, and after a round
                  in which no slice ran; without it 1
+--keep           the work goes on when there is nothing to run: it asks for the
+                 queue again after the pause
 
 example:
   operator work 8014
@@ -212,10 +216,17 @@ A round asks for the queue, and then for one slice of each job in it. A job that
 has stopped is printed with its standing and the instructions that it did here.
 A job that another request was faster for is passed over. A request that could
 not be made is made again after the pause, ten times at most; one that was sent
-and not answered is never sent again within its round. After a round in which no
-slice ran the next one waits for the pause. After ten such rounds, or one that
-is the last of --rounds, the work ends with status 1. Status 1 also: the bureau
-did not answer, or what answers is no bureau.
+and not answered is never sent again within its round.
+
+A job that runs on though it was granted all of its 1,000,000,000 instructions
+is named once, with the command that takes it out of the queue. There is nothing
+to run where the queue is empty, or has only such jobs: then the work ends with
+status 0.
+
+After a round in which no slice ran, though there were other jobs, the next one
+waits for the pause. After ten such rounds, or one that is the last of --rounds,
+the work ends with status 1. Status 1 also: the bureau did not answer, or what
+answers is no bureau.
 ";
 
 /// The text that `watch --help` prints.
@@ -236,8 +247,9 @@ It asks only for the queue and for how jobs stand, so it changes nothing. It
 prints:
 
   queue empty            no job is in the queue, when it is asked for first
-  ACME 9 came            a job is in the queue that was not
-  ACME 9 left: halted next 361, granted 2034, cards 0, lines 2
+  ACME 9 came: running granted 0 cards 0 lines 0
+                         a job is in the queue that was not: how it stands
+  ACME 9 left: halted next 361 granted 2034 cards 0 lines 2
                          a job is no longer in the queue: how it stands, also
                          held or collected
   port 8014: no answer   the bureau could be asked no longer
@@ -246,6 +258,32 @@ prints:
 The jobs that left are printed before those that came, each in the order of its
 queue. What came and left between two requests is not seen. Status 1: what
 answers is no bureau.
+";
+
+/// The text that `class --help` prints.
+pub const CLASS_HELP: &str = "\
+operator class PORT NAMES [PAGE] [--watch] [--pause SECONDS]: shows how the jobs
+of a list's customers stand.
+
+PORT             the port on 127.0.0.1 at which bureau serve listens
+NAMES            the list: a file with the name of a customer on each line
+PAGE             the page that is written, to look at in a browser or to print;
+                 without it the table is printed. No file of this name may be
+                 there
+--watch          shows the table, or writes the page, again and again, until the
+                 program is stopped
+--pause SECONDS  how long to wait before it is shown again; without it 5
+
+example:
+  operator class 8014 class.list
+  operator class 8014 class.list class.html --watch
+
+A row for each job has its customer and number, the instructions it was granted,
+the cards it punched, the lines it printed, and how it stands, also held or
+collected. It asks only for jobs and how they stand, so it changes nothing. A
+page that is shown again and again is loaded anew by the browser. If it is
+stopped, PAGE is whole, and PAGE.part may be removed. Status 1: there was no
+answer for a customer, NAMES is no such list, or PAGE could not be written.
 ";
 
 /// The text that `--version` prints.
@@ -275,5 +313,6 @@ pub(crate) fn page(subcommand: Option<Subcommand>) -> &'static str
         Some(Subcommand::Restore) => RESTORE_HELP,
         Some(Subcommand::Work) => WORK_HELP,
         Some(Subcommand::Watch) => WATCH_HELP,
+        Some(Subcommand::Class) => CLASS_HELP,
     }
 }

@@ -11,6 +11,7 @@ ghost use Rattle.std.specs.Prelude.{◌≡◌, false, IsTrue};
 mod archiving;
 mod bag_files;
 mod checking;
+mod classes;
 mod clients;
 mod copy_faults;
 mod copying;
@@ -34,6 +35,7 @@ mod working;
 
 use crate::archiving::archive_file;
 use crate::checking::check_file;
+use crate::classes::show_class;
 use crate::copy_faults::Made;
 use crate::copying::copy_file;
 use crate::faults::done_or_told;
@@ -99,6 +101,7 @@ fn carry_out<W: Write, E: Write>(
         Task::Restore { folder, new } => restore_shelf(rt, folder, new, output, errors),
         Task::Work { port, rounds } => run_queue(rt, port, rounds, output, errors),
         Task::Watch(watching) => watch_queue(rt, watching, output, errors),
+        Task::Class(class) => show_class(rt, class, output, errors),
     }
 }
 

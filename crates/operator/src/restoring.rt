@@ -251,7 +251,7 @@ fn compare_all<W: Write>(
 }
 
 /// Gives the new file its name, unless something has it. Its other name is removed.
-fn publish(rt: &HostRuntime, part: &str, new: &str) -> io::Result<()> {
+pub(crate) fn publish(rt: &HostRuntime, part: &str, new: &str) -> io::Result<()> {
     fs::hard_link(rt, part, new)?;
     fs::remove_file(rt, part)?;
     match new.rsplit_once('/') {
@@ -299,7 +299,7 @@ fn restore_all<W: Write>(
 }
 
 /// Whether something is at a path; then that is told.
-fn is_taken<E: Write>(
+pub(crate) fn is_taken<E: Write>(
     rt: &HostRuntime,
     path: &str,
     words: &str,

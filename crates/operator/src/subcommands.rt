@@ -25,10 +25,12 @@ pub enum Subcommand {
     Work,
     /// `watch`.
     Watch,
+    /// `class`.
+    Class,
 }
 
 /// The subcommands.
-const SUBCOMMANDS: [Syntax<Subcommand>; 10] = [
+const SUBCOMMANDS: [Syntax<Subcommand>; 11] = [
     Syntax {
         subcommand: Subcommand::Check,
         name: "check",
@@ -94,8 +96,9 @@ const SUBCOMMANDS: [Syntax<Subcommand>; 10] = [
             ("slice", Kind::Setting),
             ("rounds", Kind::Setting),
             ("pause", Kind::Setting),
+            ("keep", Kind::Flag),
         ],
-        usage: "work PORT [--slice N] [--rounds N] [--pause SECONDS]",
+        usage: "work PORT [--slice N] [--rounds N] [--pause SECONDS] [--keep]",
     },
     Syntax {
         subcommand: Subcommand::Watch,
@@ -106,6 +109,18 @@ const SUBCOMMANDS: [Syntax<Subcommand>; 10] = [
             ("pause", Kind::Setting),
         ],
         usage: "watch PORT [--rounds N] [--pause SECONDS]",
+    },
+    Syntax {
+        subcommand: Subcommand::Class,
+        name: "class",
+        arguments: &[
+            ("PORT", Kind::Value),
+            ("NAMES", Kind::Value),
+            ("PAGE", Kind::Further),
+            ("watch", Kind::Flag),
+            ("pause", Kind::Setting),
+        ],
+        usage: "class PORT NAMES [PAGE] [--watch] [--pause SECONDS]",
     },
 ];
 

@@ -3,6 +3,15 @@
 use queue_rounds::JobName;
 use std::alloc::{AllocError, Global};
 
+/// The same name of a job.
+pub(crate) fn same_name(alloc: Global, job: &JobName) -> Result<JobName, AllocError> {
+    let customer = String::from_str(alloc, job.customer.as_str())?;
+    Ok(JobName {
+        customer,
+        number: job.number,
+    })
+}
+
 /// The instructions of a job.
 #[derive(Drop)]
 struct Count {
@@ -37,12 +46,8 @@ impl Tally {
                 return Ok(count.executed);
             }
         }
-        let customer = String::from_str(alloc, job.customer.as_str())?;
         self.counts.push(Count {
-            job: JobName {
-                customer,
-                number: job.number,
-            },
+            job: same_name(alloc, job)?,
             executed: u64::from(executed),
         })?;
         Ok(u64::from(executed))

@@ -4,7 +4,7 @@ ghost use Rattle.std.specs.Prelude.{IfOk};
 ghost use Rattle.command_line.specs.{Arguments.{given}, Plain.{texts}, Programs.{AsksFor, wish_as}};
 ghost use Rattle.operator.specs.{
   Subcommands.{operator},
-  Tasks.{AreRounds, IsPortIn, Wants, WantsArchive, WantsCheck, WantsCopy, WantsJobs, WantsJoin, WantsPart, WantsRestore, WantsTask, WantsVerify, WantsWatch, WantsWork},
+  Tasks.{AreRounds, IsPortIn, Wants, WantsArchive, WantsCheck, WantsClass, WantsCopy, WantsJobs, WantsJoin, WantsPart, WantsRestore, WantsTask, WantsVerify, WantsWatch, WantsWork},
 };
 
 use crate::help::{VERSION, page};
@@ -23,6 +23,8 @@ pub struct Rounds {
     pub most: Option<u32>,
     /// For how many seconds to wait before a request that failed is made again, 1 to 3,600.
     pub pause: u32,
+    /// Whether the work goes on when there is nothing to run.
+    pub keeps: bool,
 }
 
 /// How a queue is watched.
@@ -33,6 +35,21 @@ pub struct Watching {
     /// How often the queue is asked for; without a number on and on.
     pub rounds: Option<u32>,
     /// For how many seconds to wait before it is asked for again, 1 to 3,600.
+    pub pause: u32,
+}
+
+/// How the jobs of a class are shown.
+#[derive(Clone, Copy)]
+pub struct Class<'a> {
+    /// The bureau's port on 127.0.0.1.
+    pub port: u16,
+    /// The path of the list of customers.
+    pub names: &'a str,
+    /// The path of the page that is written; without one the table is printed.
+    pub page: Option<&'a str>,
+    /// Whether they are shown again and again.
+    pub watches: bool,
+    /// For how many seconds to wait before they are shown again, 1 to 3,600.
     pub pause: u32,
 }
 
@@ -108,6 +125,8 @@ pub enum Task<'a> {
     },
     /// Tell what comes into the queue of a bureau that is served, and what leaves it.
     Watch(Watching),
+    /// Show how the jobs of the customers of a list stand at a bureau that is served.
+    Class(Class<'a>),
 }
 
 /// What is said of a text that is no port.
@@ -207,7 +226,13 @@ fn rounds_in(found: &Found<'_>) -> Result<Rounds, Mistake<'static>>
     let slice = up_to_or(found, "slice", 2_000, 2_000)?;
     let most = up_to_if(found, "rounds", 999_999_999)?;
     let pause = up_to_or(found, "pause", 3_600, 1)?;
-    Ok(Rounds { slice, most, pause })
+    let keeps = found.has_flag("keep");
+    Ok(Rounds {
+        slice,
+        most,
+        pause,
+        keeps,
+    })
 }
 
 /// The task of a subcommand `work`.
@@ -230,6 +255,24 @@ fn watch_task<'a>(found: &Found<'a>) -> Result<Task<'a>, Mistake<'a>>
     }))
 }
 
+/// The task of a subcommand `class`.
+fn class_task<'a>(found: &Found<'a>) -> Result<Task<'a>, Mistake<'a>>
+    ensures { IfOk result (WantsClass (given found.now)) }
+{
+    let port = port_in(found)?;
+    let names = found.needed("NAMES")?;
+    let page = found.value("PAGE");
+    let watches = found.has_flag("watch");
+    let pause = up_to_or(found, "pause", 3_600, 5)?;
+    Ok(Task::Class(Class {
+        port,
+        names,
+        page,
+        watches,
+        pause,
+    }))
+}
+
 /// The task of a subcommand, by what clap found after its name.
 fn subcommand_task<'a>(
     alloc: Global,
@@ -249,6 +292,7 @@ fn subcommand_task<'a>(
         Subcommand::Restore => restore_task(found),
         Subcommand::Work => work_task(found),
         Subcommand::Watch => watch_task(found),
+        Subcommand::Class => class_task(found),
     }
 }
 

@@ -1,9 +1,9 @@
 //! The subcommand `watch`.
 
-use crate::clients::{QUEUE, ask};
+use crate::clients::{QUEUE, ask, ask_standing};
 use crate::tasks::Watching;
 use command_line::Status;
-use queue_rounds::{JobName, Outcome, Standing, changes_between, outcome_of_queue, standing_of};
+use queue_rounds::{JobName, Outcome, Standing, changes_between, outcome_of_queue};
 use std::alloc::Global;
 use std::io::Write;
 use std::time::Duration;
@@ -20,17 +20,6 @@ struct Watch {
     began: bool,
     /// Whether the bureau could not be asked last.
     is_away: bool,
-}
-
-/// Asks how a job stands; none if that is not told.
-fn ask_standing(rt: &HostRuntime, port: u16, job: &JobName) -> io::Result<Option<Standing>> {
-    let customer = job.customer.as_str();
-    let number = job.number;
-    let request = format!(in rt.alloc();
-        "GET /c/{customer}/j/{number} HTTP/1.1\r\nHost: localhost\r\n\r\n"
-    )?;
-    let reply = ask(rt, port, request.as_bytes())?;
-    Ok(standing_of(rt.alloc(), &reply)?)
 }
 
 /// What is printed of how a job stands.
@@ -51,21 +40,22 @@ fn standing_text(alloc: Global, standing: &Standing) -> io::Result<Vec<u8>> {
 }
 
 impl Watch {
-    /// Prints that a job left the queue, and how it stands.
-    fn tell_left<W: Write>(
+    /// Prints that a job came into the queue or left it, and how it stands.
+    fn tell_job<W: Write>(
         &self,
         rt: &HostRuntime,
         job: &JobName,
+        moved: &str,
         output: &mut W,
     ) -> io::Result<()> {
         let customer = job.customer.as_str();
         let number = job.number;
-        match ask_standing(rt, self.port, job)? {
+        match ask_standing(rt, self.port, customer, number)? {
             Some(standing) => {
-                write!(output, "{customer} {number} left: ")?;
+                write!(output, "{customer} {number} {moved}: ")?;
                 output.write_all(&standing_text(rt.alloc(), &standing)?)?;
             }
-            None => writeln!(output, "{customer} {number} left")?,
+            None => writeln!(output, "{customer} {number} {moved}")?,
         }
         output.flush()
     }
@@ -83,13 +73,10 @@ impl Watch {
         }
         let changes = changes_between(rt.alloc(), &self.queue, &queue)?;
         for job in &changes.left {
-            self.tell_left(rt, job, output)?;
+            self.tell_job(rt, job, "left", output)?;
         }
         for job in &changes.came {
-            let customer = job.customer.as_str();
-            let number = job.number;
-            writeln!(output, "{customer} {number} came")?;
-            output.flush()?;
+            self.tell_job(rt, job, "came", output)?;
         }
         self.queue = queue;
         self.began = true;

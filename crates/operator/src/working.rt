@@ -1,10 +1,10 @@
 //! The subcommand `work`.
 
 use crate::clients::{QUEUE, ask};
-use crate::tallies::Tally;
+use crate::tallies::{Tally, same_name};
 use command_line::Status;
 use queue_rounds::{
-    JobName, MOST_TRIES, Next, Outcome, Passed, Ran, Rounds, Why, outcome_of_queue,
+    JobName, MOST_TRIES, Next, Outcome, Passed, Ran, Rounds, Why, is_spent, outcome_of_queue,
     outcome_of_slice,
 };
 use std::io::Write;
@@ -17,6 +17,8 @@ struct Work {
     port: u16,
     slice: u32,
     tally: Tally,
+    /// The jobs that were told to have all the instructions that a job can be granted.
+    spent: Vec<JobName>,
 }
 
 impl Work {
@@ -55,20 +57,44 @@ impl Work {
         output.flush()
     }
 
+    /// Prints once that a job was granted all the instructions that a job can be, and the way out.
+    fn tell_spent<E: Write>(
+        &mut self,
+        rt: &HostRuntime,
+        job: &JobName,
+        errors: &mut E,
+    ) -> io::Result<()> {
+        if self.spent.iter().any(|told| *told == *job) {
+            return Ok(());
+        }
+        let customer = job.customer.as_str();
+        let number = job.number;
+        writeln!(
+            errors,
+            "{customer} {number} runs on though it was granted all of its 1,000,000,000 \
+             instructions; \"hold {customer} {number}\" takes it out of the queue"
+        )?;
+        self.spent.push(same_name(rt.alloc(), job)?)?;
+        Ok(())
+    }
+
     /// Makes the request that is next: for a slice of the job whose turn it is, or for the queue.
-    fn ask_next<W: Write>(
+    fn ask_next<W: Write, E: Write>(
         &mut self,
         rt: &HostRuntime,
         rounds: &Rounds,
         output: &mut W,
+        errors: &mut E,
     ) -> io::Result<Outcome> {
         let Some(job) = rounds.next() else {
             let reply = ask(rt, self.port, QUEUE)?;
             return Ok(outcome_of_queue(rt.alloc(), &reply)?);
         };
         let outcome = self.ask_slice(rt, job)?;
-        if let Outcome::Ran(ran) = &outcome {
-            self.tell(rt, job, ran, output)?;
+        match &outcome {
+            Outcome::Ran(ran) => self.tell(rt, job, ran, output)?,
+            Outcome::Passed(passed) if is_spent(*passed) => self.tell_spent(rt, job, errors)?,
+            _ => {}
         }
         Ok(outcome)
     }
@@ -111,7 +137,7 @@ fn tell_end<E: Write>(
     errors: &mut E,
 ) -> io::Result<Status> {
     match why {
-        Why::Empty | Why::Rounds => return Ok(Status::Done),
+        Why::Empty | Why::Rounds | Why::Spent => return Ok(Status::Done),
         Why::Idle => tell_idle(port, rounds, outcome, errors)?,
         Why::Away => writeln!(
             errors,
@@ -139,14 +165,15 @@ pub(crate) fn run_queue<W: Write, E: Write>(
     output: &mut W,
     errors: &mut E,
 ) -> io::Result<Status> {
-    let mut rounds = Rounds::new(rt.alloc(), options.most);
+    let mut rounds = Rounds::new(rt.alloc(), options.most, options.keeps);
     let mut work = Work {
         port,
         slice: options.slice,
         tally: Tally::new(rt.alloc()),
+        spent: Vec::new(rt.alloc()),
     };
     for _request in 0..u64::MAX {
-        let outcome = work.ask_next(rt, &rounds, output)?;
+        let outcome = work.ask_next(rt, &rounds, output, errors)?;
         let passed = passed_in(&outcome);
         match rounds.advance(outcome) {
             Next::GoOn => {}
