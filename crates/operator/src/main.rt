@@ -3,7 +3,7 @@
 //! What a check finds is said exactly by `job_checks`, and the requests of the work on a queue by
 //! `queue_rounds`. Here they are joined to the process's arguments, files and sockets. The clauses
 //! of the kit do not mention these, so what is read and sent where is tested by
-//! `cases/check-operator`.
+//! `cases/check-operator` and `cases/check-work`.
 #![tactic(auto)]
 
 ghost use Rattle.std.specs.Prelude.{◌≡◌, false, IsTrue};
