@@ -71,8 +71,8 @@ impl Work {
         let number = job.number;
         writeln!(
             errors,
-            "{customer} {number} runs on though it was granted all of its 1,000,000,000 \
-             instructions; \"hold {customer} {number}\" takes it out of the queue"
+            "{customer} {number} was granted all of its 1,000,000,000 instructions; \
+             \"hold {customer} {number}\" takes it out of the queue"
         )?;
         self.spent.push(same_name(rt.alloc(), job)?)?;
         Ok(())
