@@ -7,10 +7,10 @@ use Rattle.std.proofs.lemmas.List.Elements.{All-head, All-tail}
 use Rattle.http_messages.specs.ReplyBodies.{body_of, refusal_body, summary_body}
 use Rattle.http_messages.specs.Fixed.{fault_bytes, fault_number, fault_status, refusing_status}
 use Rattle.http_messages.specs.Replies.{HasPhrase, answer_bytes, content_type_of, refusal_status, refused_bytes, reply_bytes, status_of}
-use Rattle.http_messages.specs.Values.{count, queue_data, queued_data, ran_data, refusal_data, summary_data}
+use Rattle.http_messages.specs.Values.{count, job_data, jobs_data, queue_data, queued_data, ran_data, refusal_data, summary_data}
 use Rattle.http_messages.specs.declared.fixed.Fault.{Fault}
 use Rattle.http_messages.specs.declared.fixed.Fault.TheVariants as fault
-use Rattle.http_messages.proofs.BodyTexts.{queue_is, ran_is, refusal_is, summary_is}
+use Rattle.http_messages.proofs.BodyTexts.{jobs_is, queue_is, ran_is, refusal_is, summary_is}
 use Rattle.httparse.specs.Grammar.{status_code}
 use Rattle.httparse.proofs.GrammarLemmas.{response_unique}
 use Rattle.core_store.specs.Storage.{largest_size}
@@ -22,14 +22,15 @@ use Rattle.machine.specs.declared.standings.Standing.TheVariants as running
 use Rattle.machine.specs.declared.standings.StandingAt.{StandingAt}
 use Rattle.office.specs.Numbers.{refusal_number}
 use Rattle.office.specs.Queued.{QueuedJob}
+use Rattle.office.specs.declared.lists.JobLine.{JobLine}
 use Rattle.office.specs.declared.refusals.Refusal.{Refusal}
 use Rattle.office.specs.declared.refusals.Refusal.TheVariants as refusal
 use Rattle.office.specs.declared.replies.Reply as office
 use Rattle.office.specs.declared.replies.Reply.TheVariants as told
 use Rattle.office.specs.declared.summaries.Summary.{Summary}
-use Rattle.queue_rounds.specs.Answers.{Stands, Tells, name_in, names_in, queue_in, ran_in, refusal_in, standing_in}
+use Rattle.queue_rounds.specs.Answers.{Stands, Tells, each_in, job_number_in, jobs_in, name_in, queue_in, ran_in, refusal_in, standing_in}
 use Rattle.queue_rounds.specs.Names.{Name, name_of}
-use Rattle.queue_rounds.specs.Replies.{IsQueueRead, IsQueueTold, IsRanTold, IsRefusalTold, IsSliceRead, is_failure}
+use Rattle.queue_rounds.specs.Replies.{AreJobsRead, IsQueueRead, IsQueueTold, IsRanTold, IsRefusalTold, IsSliceRead, is_failure}
 use Rattle.queue_rounds.specs.Responses.{IsReplyIn, IsResponse}
 use Rattle.queue_rounds.specs.StandingTexts.{IsInStorage}
 use Rattle.queue_rounds.specs.declared.replies.Outcome.{Outcome}
@@ -43,9 +44,9 @@ use Rattle.serde_json.specs.Read.{read}
 use Rattle.serde_json.specs.View.{items_of}
 use Rattle.serde_json.specs.Written.{compact_text}
 use Rattle.serde_json.proofs.OnLiterals.{serde_json_on_literals}
-use Rattle.bureau_laws.specs.Replies.{HasBody, HasCounts, ReadsQueue, ReadsSlice, ReadsStanding, IsAnswer, IsJob, IsListed, IsOfJob, IsRan, IsStandingRead, name_told, stands_told}
+use Rattle.bureau_laws.specs.Replies.{HasBody, HasCounts, HasNumber, ReadsJobs, ReadsQueue, ReadsSlice, ReadsStanding, IsAnswer, IsJob, IsListed, IsOfJob, IsRan, IsStandingRead, name_told, number_told, stands_told}
 use Rattle.bureau_laws.proofs.ReplyHeads.{IsType, code_is, head_of, reads, states_it, states_size}
-use Rattle.bureau_laws.proofs.ReplyTexts.{count_is_plain, is_text, number_is_small, queue_is_plain, queue_read, ran_is_plain, ran_read, refusal_is_plain, refusal_read, status_read, summary_is_plain, summary_read}
+use Rattle.bureau_laws.proofs.ReplyTexts.{count_is_plain, is_text, jobs_are_plain, jobs_read, line_is_small, number_is_small, queue_is_plain, queue_read, ran_is_plain, ran_read, refusal_is_plain, refusal_read, status_read, summary_is_plain, summary_read}
 
 -- ---- an answer, whatever its body says
 
@@ -161,8 +162,8 @@ name_is : (job : QueuedJob) → IsJob job → name_in (queued_data job) ≡ Some
 name_is job is =
     rw (le-leb job.number 4294967295 (omega (arith, number_is_small job is)), is.0, is.1) refl
 
-names_are : (jobs : List QueuedJob) → All IsJob jobs → names_in (items_of (map queued_data jobs)) ≡ Some (map name_told jobs)
-unfolding names_in
+names_are : (jobs : List QueuedJob) → All IsJob jobs → each_in name_in (items_of (map queued_data jobs)) ≡ Some (map name_told jobs)
+unfolding each_in
 names_are [] all = refl
 names_are (job ∷ jobs) all = rw (name_is job (All-head IsJob job jobs all), names_are jobs (All-tail IsJob job jobs all)) refl
 
@@ -186,6 +187,32 @@ queue_outcome jobs (reply.Replied status body) it all is h = queue_told jobs it 
 
 pub reads_queue : (jobs : List QueuedJob) (it : Outcome) → All IsJob jobs → HasBody (told.Queue jobs) → ReadsQueue (reply_bytes (told.Queue jobs)) it → IsListed jobs it
 reads_queue jobs it all fits h = queue_outcome jobs h.0 it all (reply_answered (told.Queue jobs) h.0 fits h.1) h.2
+
+-- ---- a customer's jobs
+
+number_is : (job : JobLine) → HasNumber job → job_number_in (job_data job) ≡ Some (number_told job)
+number_is job is = rw (le-leb job.number 4294967295 (omega (arith, line_is_small job is)), is) refl
+
+numbers_are : (jobs : List JobLine) → All HasNumber jobs → each_in job_number_in (items_of (map job_data jobs)) ≡ Some (map number_told jobs)
+unfolding each_in
+numbers_are [] all = refl
+numbers_are (job ∷ jobs) all = rw (number_is job (All-head HasNumber job jobs all), numbers_are jobs (All-tail HasNumber job jobs all)) refl
+
+jobs_tell : (jobs : List JobLine) (it : Option (List ℕ)) → All HasNumber jobs → Tells jobs_in (body_of (told.Jobs jobs)) it → it ≡ Some (map number_told jobs)
+jobs_tell jobs it all t =
+    let d = jobs_data (map job_data jobs) in
+    tells jobs_in d (body_of (told.Jobs jobs)) it (jobs_is d jobs (compact_text d) refl (λ _. refl)) (is_text d (jobs_are_plain jobs all)) (jobs_read jobs all) t
+    ∙ numbers_are jobs all
+
+jobs_outcome : (jobs : List JobLine) (answer : Reply) (it : Option (List ℕ)) → All HasNumber jobs → IsAnswer 200 (body_of (told.Jobs jobs)) answer → AreJobsRead answer it
+    → it ≡ Some (map number_told jobs)
+jobs_outcome jobs reply.Unsent it all is h = absurd is
+jobs_outcome jobs reply.Lost it all is h = absurd is
+jobs_outcome jobs (reply.Replied status body) it all is h = jobs_tell jobs it all (subst (λ (b : List ℕ). Tells jobs_in b it) is.1 (h.told is.0))
+
+pub reads_jobs : (jobs : List JobLine) (it : Option (List ℕ)) → All HasNumber jobs → HasBody (told.Jobs jobs) → ReadsJobs (reply_bytes (told.Jobs jobs)) it
+    → it ≡ Some (map number_told jobs)
+reads_jobs jobs it all fits h = jobs_outcome jobs h.0 it all (reply_answered (told.Jobs jobs) h.0 fits h.1) h.2
 
 -- ---- a slice that ran
 

@@ -14,6 +14,7 @@ use Rattle.machine.specs.declared.standings.StandingAt.{StandingAt}
 use Rattle.machine.specs.declared.standings.StandingAt.TheVariants as standing
 use Rattle.texts.specs.Names.{is_letter_or_digit, is_name_length}
 use Rattle.office.specs.Queued.{QueuedJob}
+use Rattle.office.specs.declared.lists.JobLine.{JobLine}
 use Rattle.office.specs.declared.summaries.Summary.{Summary}
 use Rattle.json.specs.Json as json
 use Rattle.json.specs.Lex.{tokens}
@@ -30,8 +31,8 @@ use Rattle.serde_json.specs.View.{items_of}
 use Rattle.serde_json.specs.Written.{comma_if, compact_text, items_outline, items_text, members_outline, members_text, outline}
 use Rattle.serde_json.proofs.Numbers.{number_of-decimal}
 use Rattle.serde_json.proofs.Texts.{print-outline}
-use Rattle.http_messages.specs.Values.{count, queue_data, queued_data, ran_data, refusal_data, summary_data}
-use Rattle.bureau_laws.specs.Replies.{HasCounts, IsJob}
+use Rattle.http_messages.specs.Values.{count, job_data, jobs_data, queue_data, queued_data, ran_data, refusal_data, summary_data}
+use Rattle.bureau_laws.specs.Replies.{HasCounts, HasNumber, IsJob}
 use Rattle.bureau_laws.proofs.ReplyDigits.{and_is, decimal_is_text}
 
 -- each number has 64 bits, and each string is a text
@@ -223,3 +224,34 @@ queue_is_plain jobs all = (ascii _ refl, rows_are_plain jobs all, (ascii _ refl,
 pub queue_read : (jobs : List QueuedJob) → All IsJob jobs → read (compact_text (queue_data (map queued_data jobs))) ≡ Some (queue_data (map queued_data jobs))
 queue_read jobs all =
     read_is (queue_data (map queued_data jobs)) (queue_is_plain jobs all) (omega (arith, rows_are_shallow jobs)) ∙ rw (rows_read jobs all) refl
+
+-- ---- a customer's jobs
+
+pub line_is_small : (job : JobLine) → HasNumber job → job.number ≤ 999999
+line_is_small job is = leb-true job.number 999999 (both_of (nat_le 1 job.number) (nat_le job.number 999999) is).1
+
+line_is_plain : (job : JobLine) → HasNumber job → IsPlain (job_data job)
+line_is_plain job is =
+    (ascii _ refl, tt, (ascii _ refl, tt, (ascii _ refl, omega (arith, line_is_small job is), (ascii _ refl, words_are_text job.standing, tt))))
+
+line_read : (job : JobLine) → HasNumber job → of_json (outline (job_data job)) ≡ Some (job_data job)
+line_read job is = rw (number_of-decimal job.number (omega (arith, line_is_small job is))) refl
+
+lines_are_plain : (jobs : List JobLine) → All HasNumber jobs → AreItemsPlain (items_of (map job_data jobs))
+lines_are_plain [] all = tt
+lines_are_plain (job ∷ jobs) all = (line_is_plain job (All-head HasNumber job jobs all), lines_are_plain jobs (All-tail HasNumber job jobs all))
+
+lines_read : (jobs : List JobLine) → All HasNumber jobs → of_items (items_outline (items_of (map job_data jobs))) ≡ Some (items_of (map job_data jobs))
+lines_read [] all = refl
+lines_read (job ∷ jobs) all = rw (line_read job (All-head HasNumber job jobs all), lines_read jobs (All-tail HasNumber job jobs all)) refl
+
+lines_are_shallow : (jobs : List JobLine) → tree.items_depth (items_outline (items_of (map job_data jobs))) ≤ 1
+lines_are_shallow [] = omega arith
+lines_are_shallow (job ∷ jobs) = omega (arith, lines_are_shallow jobs)
+
+pub jobs_are_plain : (jobs : List JobLine) → All HasNumber jobs → IsPlain (jobs_data (map job_data jobs))
+jobs_are_plain jobs all = (ascii _ refl, lines_are_plain jobs all, (ascii _ refl, ascii _ refl, tt))
+
+pub jobs_read : (jobs : List JobLine) → All HasNumber jobs → read (compact_text (jobs_data (map job_data jobs))) ≡ Some (jobs_data (map job_data jobs))
+jobs_read jobs all =
+    read_is (jobs_data (map job_data jobs)) (jobs_are_plain jobs all) (omega (arith, lines_are_shallow jobs)) ∙ rw (lines_read jobs all) refl

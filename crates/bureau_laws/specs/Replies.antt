@@ -6,13 +6,14 @@ use Rattle.machine.specs.Standings.{standing_words}
 use Rattle.machine.specs.declared.standings.StandingAt.{StandingAt}
 use Rattle.texts.specs.Names.{is_customer, is_number}
 use Rattle.office.specs.Queued.{QueuedJob}
+use Rattle.office.specs.declared.lists.JobLine.{JobLine}
 use Rattle.office.specs.declared.refusals.Refusal.{Refusal}
 use Rattle.office.specs.declared.refusals.Refusal.TheVariants as refusal
 use Rattle.office.specs.declared.replies.Reply as office
 use Rattle.office.specs.declared.summaries.Summary.{Summary}
 use Rattle.queue_rounds.specs.Answers.{Stands, Tells, standing_in}
 use Rattle.queue_rounds.specs.Names.{Name, name_of}
-use Rattle.queue_rounds.specs.Replies.{IsQueueRead, IsSliceRead}
+use Rattle.queue_rounds.specs.Replies.{AreJobsRead, IsQueueRead, IsSliceRead}
 use Rattle.queue_rounds.specs.Responses.{IsReplyIn}
 use Rattle.queue_rounds.specs.declared.replies.Outcome.{Outcome}
 use Rattle.queue_rounds.specs.declared.replies.Outcome.TheVariants as outcome
@@ -51,6 +52,18 @@ IsStandingRead (reply.Replied status body) it = IsStandingReplied status body.it
 -- what is read of bytes that come as the answer to the request for a standing
 abbrev pub ReadsStanding : List ℕ → Option Stands → Type 0
 ReadsStanding bytes it = (answer : Reply) × IsReplyIn bytes answer × IsStandingRead answer it
+
+-- what is read of bytes that come as the answer to the request for a customer's jobs
+abbrev pub ReadsJobs : List ℕ → Option (List ℕ) → Type 0
+ReadsJobs bytes it = (answer : Reply) × IsReplyIn bytes answer × AreJobsRead answer it
+
+-- a bureau's job can have this number
+abbrev pub HasNumber : JobLine → Type 0
+HasNumber job = is_number job.number ≡ true
+
+-- the number of a job in the list of a customer's jobs
+abbrev pub number_told : JobLine → ℕ
+number_told job = job.number
 
 -- a bureau can have this job
 abbrev pub IsJob : QueuedJob → Type 0

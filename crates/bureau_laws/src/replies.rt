@@ -1,6 +1,6 @@
 //! The law of replies.
 
-ghost use Rattle.std.specs.Prelude.{◌≡◌, ◌<◌, ◌^◌, ℕ, All, List, Option, Some};
+ghost use Rattle.std.specs.Prelude.{◌≡◌, ◌<◌, ◌^◌, ℕ, All, List, Option, Some, map};
 ghost use Rattle.http_messages.specs.{
   ReplyBodies.{body_of},
   Fixed.{fault_bytes, fault_status, refusing_status},
@@ -16,6 +16,7 @@ ghost use Rattle.machine.specs.{
 ghost use Rattle.office.specs.{
   Numbers.{refusal_number},
   Queued.{QueuedJob},
+  declared.lists.JobLine.{JobLine},
   declared.refusals.Refusal.{Refusal},
   declared.summaries.Summary.{Summary},
 };
@@ -30,13 +31,14 @@ ghost use Rattle.queue_rounds.specs.{
 };
 ghost use Rattle.queue_rounds.specs.declared.replies.Outcome.TheVariants as outcome;
 ghost use Rattle.queue_rounds.specs.declared.replies.Passed.TheVariants as passed;
-ghost use Rattle.bureau_laws.specs.Replies.{HasBody, HasCounts, ReadsQueue, ReadsSlice, ReadsStanding, IsAnswer, IsJob, IsListed, IsOfJob, IsRan, stands_told};
+ghost use Rattle.bureau_laws.specs.Replies.{HasBody, HasCounts, HasNumber, ReadsJobs, ReadsQueue, ReadsSlice, ReadsStanding, IsAnswer, IsJob, IsListed, IsOfJob, IsRan, number_told, stands_told};
 
 /// The law of replies: what the counter writes is read as it was meant. The bytes of each of its replies
 /// are a response with the reply's status and body, and are read as no other, and never as none.
 /// The operator reads of them the queue's jobs in their order; of a slice that ran, how many
 /// instructions it executed and how its job stands; of one that was refused, the refusal's number;
-/// of a job, its standing, flags and counts; and of a fault of the bureau itself, that it failed.
+/// of a job, its standing, flags and counts; of a customer, the numbers of his jobs in their order;
+/// and of a fault of the bureau itself, that it failed.
 /// A standing is read where its address, if it has one, is in the largest storage; so is that of
 /// each machine in range. A request that was refused by its status alone is read as nothing that a
 /// bureau says.
@@ -65,5 +67,8 @@ pub fn replies_are_read()
     ensures standing { (job : Summary) (it : Option Stands) → HasCounts job →
         IsInStorage job.standing → HasBody (told.Standing job) →
         ReadsStanding (reply_bytes (told.Standing job)) it → it ≡ Some (stands_told job) }
+    ensures jobs { (jobs : List JobLine) (it : Option (List ℕ)) → All HasNumber jobs →
+        HasBody (told.Jobs jobs) → ReadsJobs (reply_bytes (told.Jobs jobs)) it →
+        it ≡ Some (map number_told jobs) }
     ensures in_storage { (m : State) → IsInRange m → IsInStorage (standing_of m) }
 {}

@@ -1,4 +1,4 @@
-use Rattle.bureau_laws.proofs.ReplyLaw.{machine_in_storage, reads_failed_queue, reads_failed_slice, reads_foreign_queue, reads_foreign_slice, reads_queue, reads_ran, reads_refusal, reads_standing, reply_answered, reply_responded}
+use Rattle.bureau_laws.proofs.ReplyLaw.{machine_in_storage, reads_failed_queue, reads_failed_slice, reads_foreign_queue, reads_foreign_slice, reads_jobs, reads_queue, reads_ran, reads_refusal, reads_standing, reply_answered, reply_responded}
 use Rattle.bureau_laws.proofs.replies.replies_are_read.Goals as goal
 
 pub returns : goal.returns
@@ -13,5 +13,6 @@ returns c = record {
   foreign = reads_foreign_slice;
   foreign_queue = reads_foreign_queue;
   standing = reads_standing;
+  jobs = reads_jobs;
   in_storage = machine_in_storage;
 }
