@@ -1,11 +1,9 @@
 //! The law of what is asked.
 
 ghost use Rattle.std.specs.Prelude.{◌≡◌, ℕ, List};
-ghost use Rattle.http_messages.specs.{
-  Targets.{Asks},
-  Judging.{AsksFor},
-  declared.targets.Target.{Target},
-};
+ghost use Rattle.http_messages.specs.Targets.{Asks};
+ghost use Rattle.http_messages.specs.Judging.{AsksFor};
+ghost use Rattle.http_messages.specs.declared.targets.Target.{Target};
 ghost use Rattle.bureau_laws.specs.Same.{IsSameTarget};
 
 /// The law of what is asked: a target asks for at most one thing. The same holds for bytes, and

@@ -1,18 +1,14 @@
 //! The law of replies.
 
 ghost use Rattle.std.specs.Prelude.{◌≡◌, ◌<◌, ◌^◌, ℕ, All, List, Option, Some, map};
-ghost use Rattle.http_messages.specs.{
-  ReplyBodies.{body_of},
-  Fixed.{fault_bytes, fault_status, refusing_status},
-  Replies.{refused_bytes, reply_bytes, status_of},
-  declared.fixed.Fault.{Fault},
-};
-ghost use Rattle.machine.specs.{
-  Ranges.{IsInRange},
-  Run.{State},
-  Standings.{standing_of},
-  declared.standings.StandingAt.{StandingAt},
-};
+ghost use Rattle.http_messages.specs.ReplyBodies.{body_of};
+ghost use Rattle.http_messages.specs.Fixed.{fault_bytes, fault_status, refusing_status};
+ghost use Rattle.http_messages.specs.Replies.{refused_bytes, reply_bytes, status_of};
+ghost use Rattle.http_messages.specs.declared.fixed.Fault.{Fault};
+ghost use Rattle.machine.specs.Ranges.{IsInRange};
+ghost use Rattle.machine.specs.Run.{State};
+ghost use Rattle.machine.specs.Standings.{standing_of};
+ghost use Rattle.machine.specs.declared.standings.StandingAt.{StandingAt};
 ghost use Rattle.office.specs.{
   Numbers.{refusal_number},
   Queued.{QueuedJob},

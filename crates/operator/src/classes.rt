@@ -5,7 +5,7 @@ use crate::job_folders::write_new;
 use crate::restoring::{is_taken, publish};
 use crate::tasks::Class;
 use command_line::Status;
-use queue_rounds::{Standing, push_page_row, push_row};
+use queue_rounds::{JobRow, push_page_row, push_row};
 use std::alloc::{AllocError, Global};
 use std::fs::File;
 use std::io::Write;
@@ -68,14 +68,16 @@ struct Table {
     running: usize,
 }
 
-/// The customers in the lines of a text. Blanks at a line's end and empty lines do not count.
+/// The customers of a list: the first word of each line, but for one that begins with `#`.
 fn names_in(alloc: Global, text: &str) -> Result<Result<Vec<&str>, NoNames>, AllocError> {
     let mut names = Vec::new(alloc);
     let mut line = 0usize;
-    for name in text.lines() {
+    for words in text.lines() {
         line = line.saturating_add(1);
-        let name = name.trim_end();
-        if name.is_empty() {
+        let Some(name) = words.split_ascii_whitespace().next() else {
+            continue;
+        };
+        if name.starts_with('#') {
             continue;
         }
         if !is_customer(name) {
@@ -94,7 +96,7 @@ fn tell_no_names<E: Write>(path: &str, no_names: NoNames, errors: &mut E) -> io:
     match no_names {
         NoNames::Line(line) => writeln!(
             errors,
-            "{path}: line {line} is no customer's name: 1 to 12 of A to Z and 0 to 9"
+            "{path}: line {line} begins with no customer's name: 1 to 12 of A to Z and 0 to 9"
         )?,
         NoNames::Whole => writeln!(errors, "{path}: it is no list of customers, one a line")?,
     }
@@ -126,21 +128,15 @@ impl Table {
     }
 
     /// Adds the row of a job.
-    fn push_job(
-        &mut self,
-        alloc: Global,
-        customer: &str,
-        number: u32,
-        standing: &Standing,
-    ) -> Result<(), AllocError> {
+    fn push_job(&mut self, alloc: Global, row: JobRow<'_>) -> Result<(), AllocError> {
         self.jobs = self.jobs.saturating_add(1);
-        if standing.standing.as_str() == "running" {
+        if row.standing.standing.as_str() == "running" {
             self.running = self.running.saturating_add(1);
         }
         if self.is_page {
-            return push_page_row(alloc, &mut self.rows, customer, number, standing);
+            return push_page_row(alloc, &mut self.rows, row);
         }
-        push_row(alloc, &mut self.rows, customer, number, standing)
+        push_row(alloc, &mut self.rows, row)
     }
 
     /// Asks for the jobs of a customer, and adds a row for each.
@@ -154,10 +150,17 @@ impl Table {
             return self.push_note(customer, "no job");
         }
         for number in &numbers {
-            match ask_standing(rt, port, customer, *number)? {
-                Some(standing) => self.push_job(rt.alloc(), customer, *number, &standing)?,
-                None => self.push_note(customer, "no answer")?,
-            }
+            let number = *number;
+            let Some(standing) = ask_standing(rt, port, customer, number)? else {
+                self.push_note(customer, "no answer")?;
+                continue;
+            };
+            let row = JobRow {
+                customer,
+                number,
+                standing: &standing,
+            };
+            self.push_job(rt.alloc(), row)?;
         }
         Ok(())
     }
@@ -291,29 +294,31 @@ fn is_page_taken<E: Write>(rt: &HostRuntime, page: &str, errors: &mut E) -> io::
     Ok(is_taken_itself || is_taken(rt, &part, "a class left it; remove it", errors)?)
 }
 
-/// Shows how the jobs of the customers of a list stand at the bureau that is served at a port.
-pub(crate) fn show_class<W: Write, E: Write>(
-    rt: &HostRuntime,
-    class: Class<'_>,
-    output: &mut W,
-    errors: &mut E,
-) -> io::Result<Status> {
-    if let Some(page) = class.page
-        && is_page_taken(rt, page, errors)?
-    {
-        return Ok(Status::NotDone);
-    }
-    let path = class.names;
-    let text = match text_of(rt, path) {
-        Ok(Some(text)) => text,
-        Ok(None) => return tell_no_names(path, NoNames::Whole, errors),
-        Err(error) => {
-            writeln!(errors, "{path}: {error}")?;
+impl Class<'_> {
+    /// Shows how the jobs of the customers of a list stand at the bureau that is served at a port.
+    pub(crate) fn carry_out<W: Write, E: Write>(
+        self,
+        rt: &HostRuntime,
+        output: &mut W,
+        errors: &mut E,
+    ) -> io::Result<Status> {
+        if let Some(page) = self.page
+            && is_page_taken(rt, page, errors)?
+        {
             return Ok(Status::NotDone);
         }
-    };
-    match names_in(rt.alloc(), text.as_str())? {
-        Ok(names) => show_all(rt, class, &names, output, errors),
-        Err(no_names) => tell_no_names(path, no_names, errors),
+        let path = self.names;
+        let text = match text_of(rt, path) {
+            Ok(Some(text)) => text,
+            Ok(None) => return tell_no_names(path, NoNames::Whole, errors),
+            Err(error) => {
+                writeln!(errors, "{path}: {error}")?;
+                return Ok(Status::NotDone);
+            }
+        };
+        match names_in(rt.alloc(), text.as_str())? {
+            Ok(names) => show_all(rt, self, &names, output, errors),
+            Err(no_names) => tell_no_names(path, no_names, errors),
+        }
     }
 }

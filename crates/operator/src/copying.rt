@@ -10,6 +10,17 @@ use sqlite::{Alter, Connection};
 use std::io;
 use std::io::Write;
 
+/// A copy of a file, or a part of it.
+#[derive(Clone, Copy)]
+pub(crate) struct Copied<'a> {
+    /// The path of the file.
+    pub(crate) file: &'a str,
+    /// The path of the copy.
+    pub(crate) new: &'a str,
+    /// Which rows are the same, in words.
+    pub(crate) whose: &'static str,
+}
+
 /// The comparison of a copy with its file, or of a part with what some customers have of it, by the
 /// rows of all tables.
 #[derive(Drop)]
@@ -32,20 +43,31 @@ impl RowComparison<'_> {
         }
     }
 
-    /// Prints why the copy or part of a file is not made, and the way out.
-    pub(crate) fn tell<E: Write>(
+    /// Prints what came of the copy or part of a file: whose rows it has, or why it is not made,
+    /// and the way out.
+    pub(crate) fn tell<W: Write, E: Write>(
         &self,
         rt: &HostRuntime,
-        file: &str,
-        new: &str,
-        fault: CopyFault,
+        copied: Copied<'_>,
+        made: Result<u64, CopyFault>,
+        output: &mut W,
         errors: &mut E,
     ) -> io::Result<Status> {
-        let made = Made {
-            file,
-            second: file,
-            new,
+        let Copied { file, new, whose } = copied;
+        let fault = match made {
+            Ok(bytes) => {
+                let jobs = jobs_found(&self.found);
+                writeln!(
+                    output,
+                    "{new}: jobs {jobs}, {bytes} bytes, {whose} as in {file}"
+                )?;
+                output.flush()?;
+                return Ok(Status::Done);
+            }
+            Err(fault) => fault,
         };
+        let second = file;
+        let made = Made { file, second, new };
         tell_copy_fault(rt, made, fault, &self.unfilled, &self.found, errors)
     }
 }
@@ -78,16 +100,7 @@ pub(crate) fn copy_file<W: Write, E: Write>(
     errors: &mut E,
 ) -> io::Result<Status> {
     let mut comparison = RowComparison::of(Customers::All);
-    match copy(rt, file, new, &mut comparison) {
-        Ok(bytes) => {
-            let jobs = jobs_found(&comparison.found);
-            writeln!(
-                output,
-                "{new}: jobs {jobs}, {bytes} bytes, every row as in {file}"
-            )?;
-            output.flush()?;
-            Ok(Status::Done)
-        }
-        Err(fault) => comparison.tell(rt, file, new, fault, errors),
-    }
+    let made = copy(rt, file, new, &mut comparison);
+    let whose = "every row";
+    comparison.tell(rt, Copied { file, new, whose }, made, output, errors)
 }

@@ -266,7 +266,8 @@ operator class PORT NAMES [PAGE] [--watch] [--pause SECONDS]: shows how the jobs
 of a list's customers stand.
 
 PORT             the port on 127.0.0.1 at which bureau serve listens
-NAMES            the list: a file with the name of a customer on each line
+NAMES            the list: a file with the name of a customer on each line; what
+                 follows it there, and a line that begins with #, does not count
 PAGE             the page that is written, to look at in a browser or to print;
                  without it the table is printed. No file of this name may be
                  there

@@ -35,7 +35,6 @@ mod working;
 
 use crate::archiving::archive_file;
 use crate::checking::check_file;
-use crate::classes::show_class;
 use crate::copy_faults::Made;
 use crate::copying::copy_file;
 use crate::faults::done_or_told;
@@ -101,7 +100,7 @@ fn carry_out<W: Write, E: Write>(
         Task::Restore { folder, new } => restore_shelf(rt, folder, new, output, errors),
         Task::Work { port, rounds } => run_queue(rt, port, rounds, output, errors),
         Task::Watch(watching) => watch_queue(rt, watching, output, errors),
-        Task::Class(class) => show_class(rt, class, output, errors),
+        Task::Class(class) => class.carry_out(rt, output, errors),
     }
 }
 

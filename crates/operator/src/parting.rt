@@ -1,7 +1,7 @@
 //! The subcommand `part`.
 
-use crate::copy_faults::{Unfilled, failed, jobs_found};
-use crate::copying::RowComparison;
+use crate::copy_faults::{Unfilled, failed};
+use crate::copying::{Copied, RowComparison};
 use command_line::Status;
 use job_archives::{Customers, copy_jobs, first_unknown};
 use ledger_files::{Filling, part};
@@ -47,16 +47,7 @@ pub(crate) fn part_file<W: Write, E: Write>(
     errors: &mut E,
 ) -> io::Result<Status> {
     let mut parting = RowComparison::of(customers);
-    match part(rt, file, new, &mut parting) {
-        Ok(bytes) => {
-            let jobs = jobs_found(&parting.found);
-            writeln!(
-                output,
-                "{new}: jobs {jobs}, {bytes} bytes, their rows as in {file}"
-            )?;
-            output.flush()?;
-            Ok(Status::Done)
-        }
-        Err(fault) => parting.tell(rt, file, new, fault, errors),
-    }
+    let made = part(rt, file, new, &mut parting);
+    let whose = "their rows";
+    parting.tell(rt, Copied { file, new, whose }, made, output, errors)
 }

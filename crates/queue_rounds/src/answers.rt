@@ -1,7 +1,7 @@
 //! What the bureau's replies over HTTP say.
 
-ghost use Rattle.std.specs.Prelude.{◌≡◌, Some, All, IfOk, IfSome, option_map, map, string_bytes};
-ghost use Rattle.serde_json.specs.{Data.{Data}, View.{items_view, view}};
+ghost use Rattle.std.specs.Prelude.{◌≡◌, Some, All, IfOk, IfSome, option_and_then, option_map, map, string_bytes};
+ghost use Rattle.serde_json.specs.{Data.{Data}, Find.{as_array, get}, View.{items_view, view}};
 ghost use Rattle.queue_rounds.specs.{
   Answers.{Tells, each_in, job_number_in, jobs_in, name_in, number_at, queue_in, ran_in, refusal_in, standing_at, text_at},
   Names.{IsName, name_of},
@@ -65,6 +65,17 @@ pub(crate) fn text_at<'a>(value: &'a Value, name: &str) -> Option<&'a str>
     }
 }
 
+/// The items of a member, if it is an array.
+fn items_at<'a>(value: &'a Value, name: &str) -> Option<&'a Vec<Value>>
+    ensures { option_map (λ items. items_view items.now.items) result
+        ≡ option_and_then as_array (get name.now (view value.now)) }
+{
+    match value.get(name) {
+        Some(member) => member.as_array(),
+        None => None,
+    }
+}
+
 /// The text of the standing that a value tells, if a bureau prints it of one.
 pub(crate) fn standing_at(value: &Value) -> Option<&str>
     ensures { option_map (λ text. text.now) result ≡ standing_at (view value.now) }
@@ -118,10 +129,7 @@ fn queue_in(alloc: Global, value: &Value) -> Result<Option<Vec<JobName>>, AllocE
         option_map (λ jobs. map name_of jobs.items) found ≡ queue_in (view value.now)) }
     ensures are_names { IfOk result (λ found. IfSome found (λ jobs. All IsName jobs.items)) }
 {
-    let Some(queue) = value.get("queue") else {
-        return Ok(None);
-    };
-    match queue.as_array() {
+    match items_at(value, "queue") {
         Some(items) => jobs_in(alloc, items),
         None => Ok(None),
     }
@@ -174,10 +182,7 @@ fn jobs_of_customer_in(alloc: Global, value: &Value) -> Result<Option<Vec<u32>>,
     ensures { IfOk result (λ found.
         option_map (λ numbers. numbers.items) found ≡ jobs_in (view value.now)) }
 {
-    let Some(jobs) = value.get("jobs") else {
-        return Ok(None);
-    };
-    match jobs.as_array() {
+    match items_at(value, "jobs") {
         Some(items) => job_numbers_in(alloc, items),
         None => Ok(None),
     }

@@ -42,4 +42,4 @@ pub use replies::{
 pub use responses::read_reply;
 pub use rounds::{MOST_TRIES, Next, Rounds, Why, is_spent};
 pub use standings::{Standing, read_standing};
-pub use tables::{push_page_row, push_row};
+pub use tables::{JobRow, push_page_row, push_row};

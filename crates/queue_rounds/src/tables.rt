@@ -10,6 +10,17 @@ use crate::standings::Standing;
 use std::alloc::{AllocError, Global};
 use texts::{push_decimal, push_number_between};
 
+/// A row of the table: a job, and how it stands.
+#[derive(Clone, Copy)]
+pub struct JobRow<'a> {
+    /// The job's customer.
+    pub customer: &'a str,
+    /// The job's number.
+    pub number: u32,
+    /// How it stands.
+    pub standing: &'a Standing,
+}
+
 /// Adds so many blanks.
 fn push_blanks(text: &mut Vec<u8>, count: usize) -> Result<(), AllocError>
     ensures { OnOk result (text.new.items ≡ text.old.items ++ replicate count 32) }
@@ -96,20 +107,14 @@ fn push_row_end(text: &mut Vec<u8>, standing: &Standing) -> Result<(), AllocErro
 }
 
 /// Adds the row of a job in the table on a terminal. Fails only if there is no memory.
-pub fn push_row(
-    alloc: Global,
-    text: &mut Vec<u8>,
-    customer: &str,
-    number: u32,
-    standing: &Standing,
-) -> Result<(), AllocError>
-    ensures { OnOk result (text.new.items
-        ≡ text.old.items ++ row_of customer.now number (stands standing.now)) }
+pub fn push_row(alloc: Global, text: &mut Vec<u8>, row: JobRow<'_>) -> Result<(), AllocError>
+    ensures { OnOk result (text.new.items ≡ text.old.items
+        ++ row_of row.entry.customer.now row.entry.number (stands row.entry.standing.now)) }
 {
-    push_left(text, 12, customer.as_bytes())?;
-    push_right(alloc, text, 8, number)?;
-    push_counts(alloc, text, standing)?;
-    push_row_end(text, standing)
+    push_left(text, 12, row.customer.as_bytes())?;
+    push_right(alloc, text, 8, row.number)?;
+    push_counts(alloc, text, row.standing)?;
+    push_row_end(text, row.standing)
 }
 
 /// Adds a cell of a page's table that holds a number.
@@ -161,19 +166,13 @@ fn push_name_cells(text: &mut Vec<u8>, customer: &str, number: u32) -> Result<()
 }
 
 /// Adds the row of a job in the table of a page. Fails only if there is no memory.
-pub fn push_page_row(
-    alloc: Global,
-    text: &mut Vec<u8>,
-    customer: &str,
-    number: u32,
-    standing: &Standing,
-) -> Result<(), AllocError>
-    ensures { OnOk result (text.new.items
-        ≡ text.old.items ++ page_row_of customer.now number (stands standing.now)) }
+pub fn push_page_row(alloc: Global, text: &mut Vec<u8>, row: JobRow<'_>) -> Result<(), AllocError>
+    ensures { OnOk result (text.new.items ≡ text.old.items
+        ++ page_row_of row.entry.customer.now row.entry.number (stands row.entry.standing.now)) }
 {
-    let words = standing_text(alloc, standing)?;
-    push_name_cells(text, customer, number)?;
-    push_count_cells(text, standing)?;
+    let words = standing_text(alloc, row.standing)?;
+    push_name_cells(text, row.customer, row.number)?;
+    push_count_cells(text, row.standing)?;
     push_text_cell(text, &words)?;
     text.extend_from_slice(b"</tr>\n")
 }
