@@ -27,9 +27,12 @@ body { font: 16px/1.5 sans-serif; margin: 1rem; }
 div { overflow-x: auto; }
 table { border-collapse: collapse; }
 th, td { border-bottom: 1px solid #999; padding: 0.2rem 0.7rem; text-align: left; }
-th { white-space: nowrap; }
 .n { font-variant-numeric: tabular-nums; text-align: right; }
 tr { break-inside: avoid; }
+@media (max-width: 40rem) {
+  body { font-size: 14px; margin: 0.5rem; }
+  th, td { padding: 0.15rem 0.3rem; }
+}
 </style>
 </head>
 <body>
@@ -39,8 +42,8 @@ tr { break-inside: avoid; }
 const PAGE_HEADING: &str = "\
 <div>
 <table>
-<thead><tr><th>customer</th><th class=\"n\">number</th><th class=\"n\">granted</th>\
-<th class=\"n\">cards</th><th class=\"n\">lines</th><th>standing</th></tr></thead>
+<thead><tr><th>customer</th><th class=\"n\">number</th><th>standing</th>\
+<th class=\"n\">granted</th><th class=\"n\">cards</th><th class=\"n\">lines</th></tr></thead>
 <tbody>
 ";
 
@@ -121,7 +124,7 @@ impl Table {
         if self.is_page {
             return writeln!(
                 self.rows,
-                "<tr><td>{customer}</td><td colspan=\"4\"></td><td>{note}</td></tr>"
+                "<tr><td>{customer}</td><td></td><td colspan=\"4\">{note}</td></tr>"
             );
         }
         writeln!(self.rows, "{customer:12}{:39}{note}", "")

@@ -189,9 +189,9 @@ the order of the numbers. Then each job of NEW is compared with its bag. A line
 is printed for each job: that it is the same, or the first line in which its
 record differs, and whether its lines and cards are others. A job of profile 1
 is one of profile 2 then, and is told to differ. If restore is killed, NEW is
-not there, and NEW.part may be removed. Status 1: something differs, or a bag is
-wrong and its job is not in NEW. Status 3: NEW could not be made or is there
-already.
+not there; NEW.part, and what begins so beside it, may be removed. Status 1:
+something differs, or a bag is wrong and its job is not in NEW. Status 3: NEW
+could not be made or is there already.
 ";
 
 /// The text that `work --help` prints.

@@ -39,4 +39,4 @@ count_cells it = number_cell it.granted ++ number_cell it.cards ++ number_cell i
 -- a row of a page's table
 abbrev pub page_row_of : List ℕ → ℕ → Stands → List ℕ
 page_row_of customer number it = codes "<tr>" ++ text_cell customer ++ number_cell number
-    ++ count_cells it ++ text_cell (standing_words it) ++ codes "</tr>\n"
+    ++ text_cell (standing_words it) ++ count_cells it ++ codes "</tr>\n"

@@ -172,7 +172,7 @@ pub fn push_page_row(alloc: Global, text: &mut Vec<u8>, row: JobRow<'_>) -> Resu
 {
     let words = standing_text(alloc, row.standing)?;
     push_name_cells(text, row.customer, row.number)?;
-    push_count_cells(text, row.standing)?;
     push_text_cell(text, &words)?;
+    push_count_cells(text, row.standing)?;
     text.extend_from_slice(b"</tr>\n")
 }
