@@ -7,7 +7,6 @@ use Rattle.std.proofs.lemmas.Bool.{eqb-true}
 use Rattle.std.proofs.lemmas.Fmt.{decimal_injective}
 use Rattle.bcd.proofs.Tables.{at_each}
 use Rattle.http_messages.specs.declared.routes.Route.{Route}
-use Rattle.http_messages.specs.declared.routes.Route.TheVariants as route
 use Rattle.http_messages.specs.declared.routes.Verb.{Verb}
 use Rattle.http_messages.specs.declared.routes.Verb.TheVariants as verb
 use Rattle.http_messages.specs.Parts.{part}

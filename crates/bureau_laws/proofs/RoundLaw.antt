@@ -16,7 +16,7 @@ use Rattle.ledger_files.specs.Unfinished.{HoldSame}
 use Rattle.ledger.proofs.BureauVersions.{own_rows, rows_version, same_version}
 use Rattle.ledger.proofs.WorkLemmas.{fold_both}
 use Rattle.ledger.specs.WholeRows.{HaveWholeRows}
-use Rattle.bureau_laws.specs.Rounds.{AreWholeOf, Round, Link, worked, migrated, refused, rounds_of, AreLinks, files_after, AreKept, AreLeftWhole, AreStillOf}
+use Rattle.bureau_laws.specs.Rounds.{AreWholeOf, Link, worked, migrated, refused, rounds_of, AreLinks, files_after, AreKept, AreLeftWhole, AreStillOf}
 
 -- ---- versions of files
 

@@ -1,6 +1,6 @@
 -- as many rounds as are asked for
 use Rattle.std.proofs.Common.{◌≡◌, ℕ, ◌+◌, ◌-◌, ◌≤◌, ◌||◌, ◌==◌, Bool, true, false, not, if◌then◌else◌, List, [], ◌∷◌, Some, refl, sym, ap, subst, arith}
-use Rattle.queue_rounds.specs.Rounds.{State, after, has_run, idle_next, is_last, is_passed_over, listed, listed_next, next_after, spent_next, start, turn_of, turned, turned_next}
+use Rattle.queue_rounds.specs.Rounds.{State, after, has_run, is_passed_over, listed, listed_next, next_after, start, turn_of, turned, turned_next}
 use Rattle.queue_rounds.specs.Runs.{all_go_on, begins, begun_by, goes_on, total}
 use Rattle.queue_rounds.specs.declared.jobs.JobName.{JobName}
 use Rattle.queue_rounds.specs.declared.replies.Outcome.{Outcome}

@@ -1,5 +1,5 @@
 -- slices and rounds
-use Rattle.std.proofs.Common.{◌≡◌, ℕ, ◌+◌, ◌≤◌, Bool, true, false, if◌then◌else◌, List, [], ◌∷◌, refl, arith}
+use Rattle.std.proofs.Common.{◌≡◌, ℕ, ◌+◌, ◌≤◌, Bool, if◌then◌else◌, List, [], ◌∷◌, refl, arith}
 use Rattle.std.specs.Prelude.{Option}
 use Rattle.queue_rounds.specs.Rounds.{State, after, listed, start, turn_of, turned}
 use Rattle.queue_rounds.specs.Runs.{after_all, begins, count, first_of, listed_by, sliced_by, total}

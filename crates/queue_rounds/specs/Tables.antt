@@ -1,5 +1,5 @@
 -- the rows of a table of how customers' jobs stand
-use Rattle.std.specs.Prelude.{ℕ, ◌-◌, Bool, if◌then◌else◌, List, [], ◌++◌, codes, decimal, length, replicate}
+use Rattle.std.specs.Prelude.{ℕ, ◌-◌, if◌then◌else◌, List, [], ◌++◌, codes, decimal, length, replicate}
 use Rattle.queue_rounds.specs.Answers.{Stands}
 
 -- a text and behind it blanks up to this width
