@@ -18,7 +18,7 @@ def put(machine, path, text):
 
 def mails(machine):
     """What the mailer was given since it was asked last."""
-    told = machine.call('sleep 1; cat /root/mail 2>/dev/null; rm -f /root/mail')[1]
+    told = machine.call('sleep 2; cat /root/mail 2>/dev/null; rm -f /root/mail')[1]
     return [f'to {it}' for it in told.split('to root\n')[1:]]
 
 
@@ -122,7 +122,7 @@ class Watching:
         words = 'Subject: bureau-health.service failed on ', '8102: no answer within 60 s; journalctl -u bureau@8102'
         self.show('the mail has the unit, the cause and where to look', all(it in str(found[0]) for it in words), found)
         self.told('echo "TELL=sed 1s/^/told:/ >/root/told" >>/etc/default/puckersilt; '
-                  'systemctl start bureau-failed@bureau-sizes.service')
+                  'systemctl start bureau-failed@bureau-sizes.service.service')
         told = self.told('cat /root/told; rm /etc/default/puckersilt; rm -f /run/bureau-failed/*')
         self.show('TELL may name another command', told.startswith('told:Subject: bureau-sizes.service failed'), told)
 
