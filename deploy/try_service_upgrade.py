@@ -38,6 +38,11 @@ class Upgrade:
     def told(self, line):
         return self.machine.call(line)[1]
 
+    def told_by(self, path):
+        """What a bureau answers, once it listens."""
+        got = self.answered(self.machine, path)
+        return got if isinstance(got, dict) else {'said': got}
+
     def digests_of_old(self):
         """The digests of the old files, each with its log if there is one."""
         return {it: digest(f'{self.root}{FOLDER}/{it}') for it in sorted(os.listdir(f'{self.root}{FOLDER}'))
@@ -60,7 +65,7 @@ class Upgrade:
     def make(self):
         """Old files with the job of 8103, and folders with later programs and with some that fail."""
         self.told('./backup 8103 /root/whole')
-        self.answered(self.machine, '8103/queue')
+        self.told_by('8103/queue')
         for port, version in OLD.items():
             self.told(f'cd {FOLDER} && runuser -u bureau -- bureau init {port}.bureau')
             make_old(f'{self.root}/root/whole', f'{self.root}/old', version)
@@ -95,10 +100,10 @@ class Upgrade:
         if self.kept():
             found.append(f'{self.kept()}')
         for port in (8101, 8102, 8103):
-            got = self.answered(self.machine, f'{port}/queue')
+            got = self.told_by(f'{port}/queue')
             if got.get('reply') != 'queue':
                 found.append(f'{port} {got}')
-        got = self.answered(self.machine, '8103/c/ACME/j/9')
+        got = self.told_by('8103/c/ACME/j/9')
         if got.get('granted') != 20 or got.get('standing') != 'running':
             found.append(f'{got}')
         left = self.told('ls /usr/local/bin | grep -E "later|put"')
@@ -106,7 +111,7 @@ class Upgrade:
 
     def goes_on(self, port):
         """The job of a raised file stands as it stood, and goes on."""
-        got = self.answered(self.machine, f'{port}/c/ACME/j/9')
+        got = self.told_by(f'{port}/c/ACME/j/9')
         self.show(f'{port} is served, and its job stands as it did', got.get('granted') == 20, got)
         got = self.asked(self.machine, f'{port}/c/ACME/j/9/slice/2000', '-X POST')
         lines = self.asked(self.machine, f'{port}/c/ACME/j/9/lines')
@@ -172,7 +177,7 @@ class Upgrade:
         self.show('where another one has taken a command by then, nothing is put back', status == 1
                   and '8105 has taken a command' in told and '"taken"' in told, told)
         time.sleep(15)
-        got = self.answered(self.machine, '8105/c/ACME/j/7')
+        got = self.told_by('8105/c/ACME/j/7')
         self.show('and what it took is there', got.get('standing') == 'running', got)
         kept = self.kept()
         after = self.go_back(' '.join(kept), 'goes back all the same')
