@@ -191,9 +191,8 @@ class Upgrade:
                 self.told(f'timeout -s {signal} {tenths / 10} ./upgrade /root/later')
                 for kept in self.kept():
                     ended.append(signal)
-                    # Where it has no `ports` nothing was stopped by then.
-                    self.told(f'if [ -e {kept}/ports ]; then ./upgrade --back {kept}; '
-                              f'else rm -f /usr/local/bin/*.later /usr/local/bin/*.put; fi; rm -r {kept}')
+                    # Where it has no `ports` nothing was done by then.
+                    self.told(f'[ ! -e {kept}/ports ] || ./upgrade --back {kept}; rm -r {kept}')
                 found = self.is_as_before()
                 if found:
                     self.show(f'ended by {signal} after {tenths / 10} s all is as before', False, found)

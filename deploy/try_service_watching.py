@@ -43,25 +43,30 @@ class Watching:
     def begin(self, lines):
         self.told("adduser --disabled-password --gecos '' guest; systemctl disable --now haproxy")
         put(self.machine, '/usr/sbin/sendmail', MAILER)
-        self.show('any user of the machine is answered', self.guests() == ['200'] * 3, self.guests())
+        found = self.guests()
+        self.show('any user of the machine is answered', found == ['200'] * 3, found)
         for line in lines:
             status, told = self.machine.call(line)
             self.show(f'`{line}`', status == 0, told)
         self.look_at_timers('')
 
     def try_ports(self, password):
-        self.show('now no other user is', self.guests() == ['000'] * 3, self.guests())
+        found = self.guests()
+        self.show('now no other user is', found == ['000'] * 3, found)
         for user in ('root', 'bureau', 'www-data'):
             found = status_of(self.machine, '8103/queue', user=user)
             self.show(f'{user} is', found == '200', found)
         found = status_of(self.machine, '8080/c/ACME/j/9', f'-u ACME:{password}', user='guest')
         self.show('and a customer behind the proxy', found == '200', found)
         self.told('nft flush ruleset')
-        self.show('without the ruleset any user is', self.guests() == ['200'] * 3, self.guests())
-        for unit in ('bureau-ports', 'nftables'):
-            self.told('nft flush ruleset; systemctl start nftables')
-            self.told(f'systemctl restart {unit}')
-            self.show(f'after a restart of {unit} no other is', self.guests() == ['000'] * 3, self.guests())
+        found = self.guests()
+        self.show('without the ruleset any user is', found == ['200'] * 3, found)
+        for line in ('restart bureau-ports', 'restart nftables', 'reload nftables'):
+            self.told(f'systemctl start nftables; nft flush ruleset; systemctl {line}')
+            # systemctl waits for the named unit alone.
+            self.told('for n in $(seq 50); do nft list table inet bureaus && break; sleep 0.1; done')
+            found = self.guests()
+            self.show(f'after `systemctl {line}` no other is', found == ['000'] * 3, found)
 
     def look_at_timers(self, when):
         """That they run. Then they are stopped, as what they begin would be in the way of the trials."""
@@ -70,7 +75,8 @@ class Watching:
         self.show(f'the timers run{when}', told == 'active\nactive\n', told)
 
     def after_boot(self):
-        self.show('after a boot no other user is answered', self.guests() == ['000'] * 3, self.guests())
+        found = self.guests()
+        self.show('after a boot no other user is answered', found == ['000'] * 3, found)
         self.look_at_timers(' after it')
 
     def try_monitor(self):
@@ -98,15 +104,16 @@ class Watching:
         self.show('`bureau-health` has a line for each bureau',
                   status == 0 and re.fullmatch(''.join(one.format(k) for k in (1, 2, 3)), told), told)
         self.told('systemctl stop bureau@8102')
-        self.health('bureau-health 8102', 1, 'no answer within 60 s', 'journalctl -u bureau@8102')
+        self.health('bureau-health 8102', 1, 'it does not answer', 'journalctl -u bureau@8102')
         self.told('systemctl start bureau@8102')
         self.answered(self.machine, '8102/queue')
         self.told('systemctl kill -s STOP bureau@8102')
-        self.health('WITHIN=2 bureau-health 8102', 1, 'no answer within 2 s')
+        self.health('WITHIN=2 bureau-health 8102', 1, 'status 000 after 2.', 'it does not answer')
         self.told('systemctl kill -s CONT bureau@8102')
         self.health('AGE=0 bureau-health 8102', 1, 'its newest copy is 0 h old or more')
         self.health('BACKUPS=/tmp bureau-health 8102', 1, 'there is no copy of it in /tmp')
         self.health('bureau-health 8199', 1, 'there is no /var/lib/bureaus/8199.bureau')
+        self.health('BUREAUS=/root UNIT=none bureau-health', 3, 'there is no bureau in /root')
         self.health('bureau-health 8102', 0, 'status 200')
 
     def try_failures(self):
@@ -119,7 +126,7 @@ class Watching:
         self.told('systemctl start bureau@8102; sleep 1; systemctl start bureau-health')
         self.show('a service of a timer that fails is told of, once, and again when it was well',
                   [len(it) for it in found] == [1, 0, 0, 1], found)
-        words = 'Subject: bureau-health.service failed on ', '8102: no answer within 60 s; journalctl -u bureau@8102'
+        words = 'Subject: bureau-health.service failed on ', '8102: it does not answer; journalctl -u bureau@8102'
         self.show('the mail has the unit, the cause and where to look', all(it in str(found[0]) for it in words), found)
         self.told('echo "TELL=sed 1s/^/told:/ >/root/told" >>/etc/default/puckersilt; '
                   'systemctl start bureau-failed@bureau-sizes.service.service')
@@ -141,6 +148,9 @@ class Watching:
         months = [f'8101-2025-{m:02}-03T031000.bureau' for m in range(2, 13)]
         wanted = sorted({*days, *months, *today, '8101-mine.bureau'})
         self.show('the backup keeps 14 days and 12 months', status == 0 and len(today) == 1 and left == wanted, left)
+        status, told = self.machine.call('BUREAUS=/root bureau-backup --all')
+        self.show('where no bureau is there the backup fails', status == 1 and 'there is no bureau in /root' in told,
+                  told)
         self.told('cd /var/lib/bureaus && echo no bureau >8198.bureau && cp 8198.bureau 8101a.bureau')
         mails(self.machine)
         status, told = self.machine.call('systemctl start bureau-backup; journalctl -u bureau-backup -o cat -n 40; '
@@ -158,7 +168,8 @@ class Watching:
         self.told(f'mkdir {folder} && mount -t tmpfs -o size=400k,mode=700,uid=bureau,gid=bureau small {folder} && '
                   f'cd {folder} && runuser -u bureau -- bureau init {port}.bureau && cd .. && '
                   f'ln -s full/{port}.bureau {port}.bureau && dd if=/dev/zero of={folder}/filler bs=4k 2>/dev/null')
-        self.told(f'systemctl start bureau@{port}; sleep 10')
+        self.told(f'systemctl start bureau@{port}; for n in $(seq 400); do [ $(journalctl -u bureau@{port} | '
+                  'grep -c "called again") -lt 3 ] || break; sleep 0.5; done')
         told = self.told(f'systemctl show -p NRestarts --value bureau@{port}; systemctl is-active bureau@{port}; '
                          f'journalctl -u bureau@{port} -o cat')
         pauses = re.findall(r'called again after (\d+) s', told)
@@ -195,26 +206,31 @@ class Watching:
         self.answered(self.machine, '8102/queue')
 
     def try_haproxy(self, lines, password):
-        """HAProxy, in the place of nginx, asks the bureaus itself by the lines of README.md."""
-        with open(f'{self.machine.root}/root/deploy/haproxy.cfg', encoding='utf-8') as file:
-            text = file.read()
-        text = text.replace('    mode http\n', '    mode http\n' + ''.join(f'    {it}\n' for it in lines[:-1]))
-        text = text.replace('maxconn 1\n', f'maxconn 1 {lines[-1]}\n')
-        put(self.machine, '/etc/haproxy/haproxy.cfg', text)
-        self.told("systemctl stop nginx; sed -i 's/www-data/haproxy/' /etc/bureaus/ports.nft; "
-                  'systemctl reload bureau-ports; echo \'EXTRAOPTS="-S /run/haproxy-master.sock -f '
-                  '/etc/bureaus/users.haproxy"\' >>/etc/default/haproxy; systemctl restart haproxy; sleep 7')
-        own = f'-u ACME:{password}'
+        """HAProxy takes nginx's place, by the lines of README.md, and asks the bureaus itself."""
+        self.told('systemctl disable --now nginx')
+        for line in lines:
+            status, told = self.machine.call(line)
+            self.show(f'`{line}`', status == 0, told)
+        own, word = f'-u ACME:{password}', self.told('./customer --again MONITOR1; systemctl reload haproxy').split()[1]
+        monitor = '8080/c/MONITOR1/jobs', f'-u MONITOR1:{word}'
+        time.sleep(7)
         found = status_of(self.machine, '8080/c/ACME/j/9', own)
         self.show('behind HAProxy, which asks the bureaus, a customer is answered', found == '200', found)
+        found = status_of(self.machine, *monitor), status_of(self.machine, monitor[0], '-u MONITOR1:other')
+        self.show('so is a monitor, and with a wrong password it gets 401', found == ('200', '401'), found)
+        found = status_of(self.machine, '8080/queue', own)
+        self.show('what HAProxy asks no customer may ask', found == '404', found)
         self.told('systemctl stop bureau@8101; sleep 25')
         begun = time.monotonic()
-        found, took = status_of(self.machine, '8080/c/ACME/j/9', own), time.monotonic() - begun
-        self.show('where his bureau was down for 25 seconds he gets 503 at once', found == '503' and took < 2,
-                  f'{found} after {took:.1f} s')
-        self.told('systemctl start bureau@8101; sleep 7')
-        found = status_of(self.machine, '8080/c/ACME/j/9', own)
-        self.show('and an answer when it is back', found == '200', found)
+        found = status_of(self.machine, '8080/c/ACME/j/9', own), status_of(self.machine, *monitor)
+        took = time.monotonic() - begun
+        self.show('where the bureau was down for 25 seconds both get 503 at once',
+                  found == ('503', '503') and took < 4, f'{found} after {took:.1f} s')
+        self.told('systemctl start bureau@8101')
+        self.answered(self.machine, '8101/queue')
+        time.sleep(7)
+        found = status_of(self.machine, '8080/c/ACME/j/9', own), status_of(self.machine, *monitor)
+        self.show('and an answer when it is back', found == ('200', '200'), found)
         told = self.told('journalctl -u haproxy -o cat')
         self.show('HAProxy\'s journal has both', all(re.search(f'Server bureau_8101/one is {it}', told)
                                                     for it in ('DOWN', 'UP')), told[-2000:])
