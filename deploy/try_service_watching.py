@@ -128,7 +128,7 @@ class Watching:
                   [len(it) for it in found] == [1, 0, 0, 1], found)
         words = 'Subject: bureau-health.service failed on ', '8102: it does not answer; journalctl -u bureau@8102'
         self.show('the mail has the unit, the cause and where to look', all(it in str(found[0]) for it in words), found)
-        self.told('echo "TELL=sed 1s/^/told:/ >/root/told" >>/etc/default/puckersilt; '
+        self.told('rm -f /root/told; echo "TELL=sed 1s/^/told:/ >/root/told" >>/etc/default/puckersilt; '
                   'systemctl start bureau-failed@bureau-sizes.service.service')
         told = self.told('cat /root/told; rm /etc/default/puckersilt; rm -f /run/bureau-failed/*')
         self.show('TELL may name another command', told.startswith('told:Subject: bureau-sizes.service failed'), told)
