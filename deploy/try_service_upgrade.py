@@ -158,8 +158,9 @@ class Upgrade:
             file.write(whole)
         self.digests = self.digests_of_old()
         for words in ('', '--back', '8101 x', '/root/later 8101', '--back /root'):
+            wanted = (1, 'is of no upgrade') if words == '--back /root' else (2, 'usage: upgrade ')
             status, told = self.machine.call(f'./upgrade {words}')
-            self.show(f'`upgrade {words}` is refused', status == (1 if words == '--back /root' else 2), told)
+            self.show(f'`upgrade {words}` is refused', status == wanted[0] and wanted[1] in told, told)
 
     def try_busy_port(self):
         """A bureau that does not answer, before and after another one has taken a command."""

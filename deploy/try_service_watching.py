@@ -151,15 +151,15 @@ class Watching:
         status, told = self.machine.call('BUREAUS=/root bureau-backup --all')
         self.show('where no bureau is there the backup fails', status == 1 and 'there is no bureau in /root' in told,
                   told)
-        self.told('cd /var/lib/bureaus && echo no bureau >8198.bureau && cp 8198.bureau 8101a.bureau')
+        self.told('cd /var/lib/bureaus && echo no bureau >8100.bureau && cp 8100.bureau 8101a.bureau')
         mails(self.machine)
         status, told = self.machine.call('systemctl start bureau-backup; journalctl -u bureau-backup -o cat -n 40; '
                                          f'ls {folder}/8103-* | wc -l')
         self.show('where one can\'t be copied the others are, and the service fails',
-                  told.endswith('\n2\n') and 'no good copy of 8198' in told, told)
+                  told.endswith('\n2\n') and 'no good copy of 8100' in told, told)
         told = mails(self.machine)
-        self.show('which is told', len(told) == 1 and 'no good copy of 8198' in told[0], told)
-        self.told(f'rm /var/lib/bureaus/8198.bureau /var/lib/bureaus/8101a.bureau {folder}/8101-20* '
+        self.show('which is told', len(told) == 1 and 'no good copy of 8100' in told[0], told)
+        self.told(f'rm /var/lib/bureaus/8100.bureau /var/lib/bureaus/8101a.bureau {folder}/8101-20* '
                   f'{folder}/8101-mine.bureau; systemctl start bureau-backup; systemctl reset-failed')
 
     def try_full_disk(self):
@@ -168,10 +168,11 @@ class Watching:
         self.told(f'mkdir {folder} && mount -t tmpfs -o size=400k,mode=700,uid=bureau,gid=bureau small {folder} && '
                   f'cd {folder} && runuser -u bureau -- bureau init {port}.bureau && cd .. && '
                   f'ln -s full/{port}.bureau {port}.bureau && dd if=/dev/zero of={folder}/filler bs=4k 2>/dev/null')
-        self.told(f'systemctl start bureau@{port}; for n in $(seq 400); do [ $(journalctl -u bureau@{port} | '
-                  'grep -c "called again") -lt 3 ] || break; sleep 0.5; done')
-        told = self.told(f'systemctl show -p NRestarts --value bureau@{port}; systemctl is-active bureau@{port}; '
-                         f'journalctl -u bureau@{port} -o cat')
+        journal = f'journalctl -u bureau@{port} -o cat --since @{self.told("date +%s").strip()}'
+        self.told(f'systemctl start bureau@{port}; for n in $(seq 400); do systemctl -q is-active bureau@{port} && '
+                  f'[ $({journal} | grep -c "called again") -lt 3 ] || break; sleep 0.5; done')
+        told = self.told(f'systemctl show -p NRestarts --value bureau@{port}; '
+                         f'systemctl is-active bureau@{port}; {journal}')
         pauses = re.findall(r'called again after (\d+) s', told)
         self.show('on a full disk a bureau is called again after longer and longer pauses',
                   told.startswith('0\nactive\n') and pauses == ['1', '2', '4', '8'][:len(pauses)] and len(pauses) > 2,
