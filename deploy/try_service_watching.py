@@ -121,9 +121,14 @@ class Watching:
         mails(self.machine)
         found = []
         for line in ('systemctl stop bureau@8102', ':', 'systemctl start bureau@8102', 'systemctl stop bureau@8102'):
-            self.told(f'{line}; sleep 1; systemctl start bureau-health')
+            self.told(line)
+            if 'start' in line:
+                self.answered(self.machine, '8102/queue')
+            self.told('systemctl start bureau-health')
             found.append(mails(self.machine))
-        self.told('systemctl start bureau@8102; sleep 1; systemctl start bureau-health')
+        self.told('systemctl start bureau@8102')
+        self.answered(self.machine, '8102/queue')
+        self.told('systemctl start bureau-health')
         self.show('a service of a timer that fails is told of, once, and again when it was well',
                   [len(it) for it in found] == [1, 0, 0, 1], found)
         words = 'Subject: bureau-health.service failed on ', '8102: it does not answer; journalctl -u bureau@8102'
