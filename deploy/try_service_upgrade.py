@@ -164,20 +164,22 @@ class Upgrade:
 
     def try_busy_port(self):
         """A bureau that does not answer, before and after another one has taken a command."""
-        hold = ('(python3 -c "import socket, time; door = socket.create_server((\'127.0.0.1\', 8104)); '
-                'time.sleep(25)" >/dev/null 2>&1 & ) ; sleep 1;')
-        status, told = self.machine.call(f'{hold} WAIT=10 ./upgrade /root/later')
-        time.sleep(15)
+        # Something else has the port of 8104 until the call is over.
+        hold = ('touch /tmp/hold; (python3 -c "import os, socket, time; '
+                'door = socket.create_server((\'127.0.0.1\', 8104)); '
+                '[time.sleep(0.1) for _ in range(6000) if os.path.exists(\'/tmp/hold\')]" '
+                '>/dev/null 2>&1 &) ; sleep 1;')
+        over = 'found=$?; rm /tmp/hold; sleep 1;'
+        status, told = self.machine.call(f'{hold} WAIT=10 ./upgrade /root/later; {over} exit $found')
         found = self.is_as_before()
         self.show('where a bureau does not answer all is as before', status == 1 and not found
                   and '8104 does not answer within 10 s' in told, f'{found} {told}')
         put = 'curl -s -X PUT --data-binary @deck http://127.0.0.1:8105/c/ACME/j/7/object/4000/A'
-        later = f'(for n in $(seq 200); do {put} && break; sleep 0.1; done >/root/answer 2>&1 &) ;'
-        status, told = self.machine.call(f'{hold} {later} WAIT=10 ./upgrade /root/later; found=$?; '
+        later = f'(for n in $(seq 2000); do {put} && break; sleep 0.1; done >/root/answer 2>&1 &) ;'
+        status, told = self.machine.call(f'{hold} {later} WAIT=10 ./upgrade /root/later; {over} '
                                          'cat /root/answer; exit $found')
         self.show('where another one has taken a command by then, nothing is put back', status == 1
                   and '8105 has taken a command' in told and '"taken"' in told, told)
-        time.sleep(15)
         got = self.told_by('8105/c/ACME/j/7')
         self.show('and what it took is there', got.get('standing') == 'running', got)
         kept = self.kept()
@@ -205,8 +207,8 @@ class Upgrade:
         self.show('`upgrade` gives all bureaus later programs', status == 0 and all(it in told for it in wanted), told)
         running = self.told('for p in 8101 8106; do m=$(systemctl show -p MainPID --value bureau@$p); '
                             'sha256sum </proc/$(cat /proc/$m/task/$m/children | tr -d " ")/exe; done')
-        self.show('and they run', running.split()[::2] == [self.programs()[0]] * 2 and self.programs() != self.first,
-                  running)
+        wanted = [digest(f'{self.root}/root/later/{it}') for it in ('bureau', 'operator')]
+        self.show('and they run', running.split()[::2] == [wanted[0]] * 2 and self.programs() == wanted, running)
         for port in OLD:
             self.goes_on(port)
         self.go_back(' '.join(self.kept()), 'goes back to the programs too')
