@@ -319,7 +319,7 @@ class BeforeMachines:
             self.ask(name, 'POST', f'/c/{name}/j/12/slice/2000')
             self.ask(name, 'POST', f'/c/{name}/j/12/collect')
             self.last[name] = self.all_of(name)
-        found, failed, count = [], [], 0
+        found, failed, count, old = [], [], 0, self.words['ACME']
         for place, block in enumerate(blocks_of_page('Moving a customer to another machine')):
             for line in block.splitlines():
                 if line.startswith('cd '):
@@ -348,8 +348,10 @@ class BeforeMachines:
         self.is_so('and the job that was begun on the old machine has its listing on the new one', example('primes.listing'),
                    self.ask('ACME', 'GET', '/c/ACME/j/10/lines')[1])
         with self.machines[0].network.entered():
-            found = asked(self.machines[0].door, 'GET', '/c/ACME/j/9', None, self.named('ACME'))[0]
-        self.is_so('the old machine knows him no more (401 or 404)', True, found in (401, 404))
+            found = asked(self.machines[0].door, 'PUT', '/c/ACME/j/77/object/4000/A', example('two_lines.deck'),
+                          self.named('ACME', old))[0]
+        self.is_so('the old machine takes no deck of his any more (401 or 404)', (True, [NEW]),
+                   (found in (401, 404), self.holders('ACME')))
 
 
 def tried(program, trial, service, stand):
