@@ -246,6 +246,8 @@ class BeforeMachines:
         others = self.status('LOGOS', 'GET', '/c/LOGOS/j/9'), time.monotonic() - began < 3
         self.is_so('while the line to one machine is cut, customers of the other are answered', (200, True, []),
                    (*others, found))
+        # For longer than one try to connect takes.
+        time.sleep(6)
         with self.hub.entered():
             Network.ip('link set one up')
         waiting.join()
