@@ -1,9 +1,11 @@
 """What deploy/try shows of a front before two machines, each in a network of its own.
 
-A machine has three bureaus and a proxy, as deploy/try has them on one machine, behind the door for customers elsewhere
-that README.md opens; the first has nginx, the second HAProxy. Before them is front.cfg. The addresses and ports are
-those of the configurations. A customer moves between the machines by the list of README.md.
+A machine has three bureaus and a proxy, as deploy/try has them on one machine, behind the door for
+customers elsewhere that README.md opens; the first has nginx, the second HAProxy. Before them is
+front.cfg. The addresses are those of the configurations. A customer moves between the machines by
+the list of README.md.
 """
+import collections
 import contextlib
 import ctypes
 import json
@@ -21,9 +23,10 @@ NEW_NETWORK = 0x40000000      # CLONE_NEWNET of Linux
 FRONT, ADDRESSES = '10.1.0.250', ('10.1.0.1', '10.1.0.2')
 NAMES = 'one', 'two'
 # Each customer's machine and bureau. ACME moves, from the bureau of ZETA to that of DELTA.
-LINES = {'ACME': (0, 8103), 'ZETA': (0, 8103), 'BETA': (0, 8101), 'DELTA': (1, 8101), 'LOGOS': (1, 8102)}
+LINES = {'ACME': (0, 8103), 'ZETA': (0, 8103), 'BETA': (0, 8101), 'DELTA': (1, 8101),
+         'LOGOS': (1, 8102)}
 OLD, NEW = (0, 8103), (1, 8101)
-# What a customer is told whose bureau is down, or who has no machine, no bureau or no password just then.
+# What a customer is told whose bureau is down, or who has no machine, bureau or password just then.
 AWAY = 0, 401, 404, 502, 503, 504
 
 SYSTEMCTL = """\
@@ -33,7 +36,7 @@ word=$1; shift; [ "$1" != --now ] || shift
 name={room}/${{1#bureau@}}
 stop() {{ touch "$name.stopped"; while [ -e "$name.runs" ]; do sleep 0.02; done; }}
 start() {{ rm -f "$name.stopped"; while [ ! -e "$name.runs" ]; do sleep 0.02; done; }}
-case $word in disable) stop ;; enable) start ;; restart) stop; start ;; reload) touch "$name.reloaded" ;; esac
+case $word in disable) stop ;; enable) start ;; restart) stop; start ;; esac
 """
 STUBS = {'runuser': 'shift 3; exec "$@"', 'chown': ':', 'scp': 'cp -pr "$2" {beyond}'}
 
@@ -110,7 +113,7 @@ class OnMachine:
         super().__init__(proxy, room, program)
         self.name, self.network = NAMES[place], network
         self.lines = {name: at[1] for name, at in LINES.items() if at[0] == place}
-        # HAProxy has a customer of a bureau that is down wait for 20 seconds; here he is told at once.
+        # HAProxy has a customer of a bureau that is down wait for 20 seconds; here he is told.
         self.altered = [('retries 20', 'retries 0')]
 
     def make_certificate(self):
@@ -122,7 +125,8 @@ class OnMachine:
         super().open_door()
         name = 'bureaus.conf' if self.proxy == 'nginx' else 'haproxy.cfg'
         text, here = read(f'{self.room}/{name}').decode(), f'127.0.0.1:{self.closed_door} ssl'
-        self.write(name, text.replace(f'listen {here}', 'listen 443 ssl').replace(f'bind {here}', 'bind :443 ssl'))
+        text = text.replace(f'listen {here}', 'listen 443 ssl')
+        self.write(name, text.replace(f'bind {here}', 'bind :443 ssl'))
 
     def begin(self):
         with self.network.entered():
@@ -162,14 +166,16 @@ class BeforeMachines:
                 it.write(f'bin/{name}', '#!/bin/sh\n' + text.format(beyond=other.room) + '\n')
                 os.chmod(f'{it.room}/bin/{name}', 0o755)
         shutil.copy(f'{HERE}/counter.html', self.room)
-        self.write('machines.map', ''.join(f'{name} machine_{at[0] + 1};\n' for name, at in LINES.items()))
+        lines = [f'{name} machine_{at[0] + 1};\n' for name, at in LINES.items()]
+        self.write('machines.map', ''.join(lines))
         self.begin_front()
 
     def begin_front(self, *altered):
         altered = [('/etc/bureaus', self.room), ('/usr/local/share/bureaus', self.room),
                    ('    user haproxy\n', ''), ('    group haproxy\n', ''), *altered]
         self.write('front.cfg', self.put_up('front.cfg', altered))
-        self.front = self.service(f'{self.room}/front', ['haproxy', '-W', '-f', f'{self.room}/front.cfg'], self.log)
+        words = ['haproxy', '-W', '-f', f'{self.room}/front.cfg']
+        self.front = self.service(f'{self.room}/front', words, self.log)
         with self.hub.entered():
             self.front.start()
             wait_for(self.door)
@@ -199,23 +205,31 @@ class BeforeMachines:
             taken = self.status(customer, 'PUT', f'{job}/object/4000/A', example('two_lines.deck'))
             self.ask(customer, 'POST', f'{job}/slice/2000')
             found.append((taken, *self.ask(customer, 'GET', f'{job}/lines')))
-        self.is_so('each customer has a job done', [(200, 200, b'HELLO\nWORLD\n')] * len(LINES), found)
-        self.is_so('each job is in the bureau that the maps of the front and of its machine name, and in no other',
+        wanted = [(200, 200, b'HELLO\nWORLD\n')] * len(LINES)
+        self.is_so('each customer has a job done', wanted, found)
+        self.is_so('each job is in the bureau that the maps of the front and of its machine name, '
+                   'and in no other',
                    {it: [at] for it, at in LINES.items()}, {it: self.holders(it) for it in LINES})
 
     def show_strangers(self):
-        self.is_so("another's job, by a customer of the same machine (403) and of the other (401 or 403)", (403, True),
-                   (self.status('ZETA', 'GET', '/c/ACME/j/9'),
-                    {self.status('LOGOS', 'GET', '/c/ACME/j/9'), self.status('ACME', 'GET', '/c/LOGOS/j/9')} <= {401, 403}))
+        job = '/c/ACME/j/9'
+        others = {self.status('LOGOS', 'GET', job), self.status('ACME', 'GET', '/c/LOGOS/j/9')}
+        self.is_so("another's job, by a customer of the same machine (403) and of the other "
+                   '(401 or 403)',
+                   (403, True), (self.status('ZETA', 'GET', job), others <= {401, 403}))
         self.is_so('no password and a wrong one (401)', (401, 401),
-                   (self.status(None, 'GET', '/c/ACME/j/9'), self.status('ACME', 'GET', '/c/ACME/j/9', word='guess')))
+                   (self.status(None, 'GET', job), self.status('ACME', 'GET', job, word='guess')))
         self.words['NOBODY'] = 'guess'
-        self.is_so('a customer of no machine is told no more than that (401), and the queue is closed (404)',
-                   (401, 404), (self.status('NOBODY', 'GET', '/c/NOBODY/j/9'), self.status('ACME', 'GET', '/queue')))
-        self.is_so('the page is served at /', (200, example('../deploy/counter.html')), self.ask(None, 'GET', '/'))
+        found = self.status('NOBODY', 'GET', '/c/NOBODY/j/9'), self.status('ACME', 'GET', '/queue')
+        self.is_so('a customer of no machine is told no more than that (401), and the queue is '
+                   'closed (404)', (401, 404), found)
+        self.is_so('the page is served at /', (200, example('../deploy/counter.html')),
+                   self.ask(None, 'GET', '/'))
         deck = (b' ' * 80 + b'\n') * 2000
-        self.is_so('a deck of 2,000 cards is taken by both', [(200, b'{"cards":2000,"reply":"taken"}')] * 2,
-                   [self.ask(it, 'PUT', f'/c/{it}/j/11/object/4000/A', deck) for it in ('BETA', 'LOGOS')])
+        found = [self.ask(it, 'PUT', f'/c/{it}/j/11/object/4000/A', deck)
+                 for it in ('BETA', 'LOGOS')]
+        self.is_so('a deck of 2,000 cards is taken by both',
+                   [(200, b'{"cards":2000,"reply":"taken"}')] * 2, found)
 
     def show_not_repeated(self, stand):
         """Something that answers nothing is in a bureau's place."""
@@ -228,49 +242,56 @@ class BeforeMachines:
             self.becomes(502, customer, 'GET', job)
             before = silent.count
             self.ask(customer, 'POST', f'{job}/slice/1')
-            self.is_so(f'a POST that was sent to machine {it.name}, and not answered, is not sent again', 1,
-                       silent.count - before)
+            self.is_so(f'a POST that was sent to machine {it.name}, and not answered, is not sent '
+                       'again', 1, silent.count - before)
             silent.end()
             with it.network.entered():
                 it.bureaus[name].go_on()
-            self.is_so('its bureau is begun again, and has its jobs', 200, self.becomes(200, customer, 'GET', job))
+            self.becomes(200, customer, 'GET', job)
 
     def show_line_cut(self):
         found = []
+
+        def wait():
+            found.append(self.ask('ACME', 'GET', '/c/ACME/j/9/lines'))
+
         with self.hub.entered():
             Network.ip('link set one down')
-        waiting = threading.Thread(target=lambda: found.append(self.ask('ACME', 'GET', '/c/ACME/j/9/lines')))
+        waiting = threading.Thread(target=wait)
         waiting.start()
         time.sleep(0.5)
         began = time.monotonic()
         others = self.status('LOGOS', 'GET', '/c/LOGOS/j/9'), time.monotonic() - began < 3
-        self.is_so('while the line to one machine is cut, customers of the other are answered', (200, True, []),
-                   (*others, found))
+        self.is_so('while the line to one machine is cut, customers of the other are answered',
+                   (200, True, []), (*others, found))
         # For longer than one try to connect takes.
         time.sleep(6)
         with self.hub.entered():
             Network.ip('link set one up')
         waiting.join()
-        self.is_so('and who waited is answered when it is whole again', [(200, b'HELLO\nWORLD\n')], found)
+        self.is_so('and who waited is answered when it is whole again',
+                   [(200, b'HELLO\nWORLD\n')], found)
 
     def show_false_machine(self):
         """The machine at an address is another one than front.cfg names."""
         self.front.end()
         self.begin_front((ADDRESSES[0], ADDRESSES[1]), ('retries 20', 'retries 0'))
-        found = self.status('ACME', 'GET', '/c/ACME/j/9'), self.status('LOGOS', 'GET', '/c/LOGOS/j/9')
-        self.is_so("a machine with another's certificate is handed no password (503)", (503, 200), found)
+        found = [self.status(it, 'GET', f'/c/{it}/j/9') for it in ('ACME', 'LOGOS')]
+        self.is_so("a machine with another's certificate is handed no password (503)", [503, 200],
+                   found)
         self.front.end()
         self.begin_front()
 
     def show_log(self):
         time.sleep(0.3)
-        form = re.compile(r'20\d\d-\d\d-\d\dT\S+ 127\.0\.0\.1 customer=(\S*) machine=(\S*) "(\S+ \S+) HTTP/1\.1" (\d+) '
-                          r'\d+ ms=\d+')
+        form = re.compile(r'20\d\d-\d\d-\d\dT\S+ 127\.0\.0\.1 customer=(\S*) machine=(\S*) '
+                          r'("\S+ \S+ HTTP/1\.1" \d+ )\d+ ms=\d+')
         lines = [it for it in map(form.fullmatch, read(self.log).decode().splitlines()) if it]
-        served = {(it[1], it[2]) for it in lines if it[4] == '200' and it[3].startswith('GET /c/')}
-        self.is_so('each request has its line, with customer and machine', (True, True),
-                   (len(lines) >= sum(self.asked.values()), served <= {
-                       (name, f'machine_{place + 1}') for name, (place, _) in LINES.items()} and len(served) > 2))
+        missing = self.asked - collections.Counter(it[3] for it in lines)
+        served = {(it[1], it[2]) for it in lines if it[3].endswith(' 200 ') and ' /c/' in it[3]}
+        mapped = {(name, f'machine_{at[0] + 1}') for name, at in LINES.items()}
+        self.is_so(f'each of {sum(self.asked.values())} requests has its line, with customer and '
+                   'machine', ({}, mapped), (dict(missing), served))
 
     # A customer moves.
 
@@ -297,7 +318,7 @@ class BeforeMachines:
         return found
 
     def give(self, place, line):
-        """Gives a line of the list on a machine, or on the front, and returns its status and what it printed."""
+        """Gives a line of the list on a machine or the front: its status and what it printed."""
         machine = self.machines[place] if place < 2 else self
         for old, new in (('./customer', f'{HERE}/customer'), ('/var/lib/bureaus', machine.room),
                          ('/etc/bureaus', machine.room), ('nginx', machine.proxy),
@@ -307,9 +328,11 @@ class BeforeMachines:
             machine.reload()
             time.sleep(0.5)
             return 0, ''
-        env = {**os.environ, 'PATH': f'{machine.room}/bin:{os.environ["PATH"]}', 'CUSTOMERS': machine.room}
-        given = subprocess.run(['sh', '-c', line], cwd=machine.room, env=env, check=False, text=True,
-                               stdin=subprocess.DEVNULL, stdout=subprocess.PIPE, stderr=subprocess.STDOUT)
+        env = {**os.environ, 'CUSTOMERS': machine.room}
+        env['PATH'] = f'{machine.room}/bin:{env["PATH"]}'
+        given = subprocess.run(['sh', '-c', line], cwd=machine.room, env=env, check=False,
+                               stdin=subprocess.DEVNULL, stdout=subprocess.PIPE, text=True,
+                               stderr=subprocess.STDOUT)
         return given.returncode, given.stdout
 
     def show_move(self):
@@ -333,9 +356,10 @@ class BeforeMachines:
                     self.words['ACME'] = told.split()[-1]
                 found += [f'after `{line}`: {it}' for it in self.wrongs(customers, ['LOGOS'])]
                 count += 1
-        self.is_so(f'a customer moves to the other machine by the {count} lines of README.md', (True, []),
-                   (count > 20, failed))
-        self.is_so('after each of them who is answered has all that is his, by one bureau', [], found)
+        self.is_so(f'a customer moves to the other machine by the {count} lines of README.md',
+                   (True, []), (count > 20, failed))
+        self.is_so('after each of them who is answered has all that is his, by one bureau', [],
+                   found)
         for it, name in zip(self.machines, (OLD[1], NEW[1])):
             with it.network.entered():
                 wait_for(it.port[name])
@@ -344,14 +368,15 @@ class BeforeMachines:
         self.is_so('at the end all are answered as before, ACME by the other machine', ([], [NEW]),
                    (self.wrongs(customers, customers), self.holders('ACME')))
         again = self.ask('ACME', 'PUT', '/c/ACME/j/9/object/4000/A', example('two_lines.deck'))
-        self.is_so('a submission that is repeated has its reply', (200, b'{"cards":6,"reply":"taken"}'), again)
+        self.is_so('a submission that is repeated has its reply',
+                   (200, b'{"cards":6,"reply":"taken"}'), again)
         while b'"running"' in self.ask('ACME', 'POST', '/c/ACME/j/10/slice/2000')[1]:
             pass
-        self.is_so('and the job that was begun on the old machine has its listing on the new one', example('primes.listing'),
-                   self.ask('ACME', 'GET', '/c/ACME/j/10/lines')[1])
+        self.is_so('and the job that was begun on the old machine has its listing on the new one',
+                   example('primes.listing'), self.ask('ACME', 'GET', '/c/ACME/j/10/lines')[1])
         with self.machines[0].network.entered():
-            found = asked(self.machines[0].door, 'PUT', '/c/ACME/j/77/object/4000/A', example('two_lines.deck'),
-                          self.named('ACME', old))[0]
+            found = asked(self.machines[0].door, 'PUT', '/c/ACME/j/77/object/4000/A',
+                          example('two_lines.deck'), self.named('ACME', old))[0]
         self.is_so('the old machine takes no deck of his any more (401 or 404)', (True, [NEW]),
                    (found in (401, 404), self.holders('ACME')))
 
@@ -359,7 +384,8 @@ class BeforeMachines:
 def tried(program, trial, service, stand):
     """How much is shown, and how much not. TRIAL, SERVICE and STAND are those of deploy/try."""
     if os.geteuid() or not shutil.which('ip'):
-        print('front: two machines: NO, not tried; call this as root, and have iproute2', flush=True)
+        print('front: two machines: NO, not tried; call this as root, and have iproute2',
+              flush=True)
         return 0, 1
     front = type('Front', (BeforeMachines, trial), {})
     machine = type('Machine', (OnMachine, trial), {})
