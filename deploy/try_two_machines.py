@@ -38,7 +38,7 @@ stop() {{ touch "$name.stopped"; while [ -e "$name.runs" ]; do sleep 0.02; done;
 start() {{ rm -f "$name.stopped"; while [ ! -e "$name.runs" ]; do sleep 0.02; done; }}
 case $word in disable) stop ;; enable) start ;; restart) stop; start ;; esac
 """
-STUBS = {'runuser': 'shift 3; exec "$@"', 'chown': ':', 'scp': 'cp -pr "$2" {beyond}'}
+STUBS = {'runuser': 'shift 3; exec "$@"', 'chown': ':', 'scp': 'cp -p {beyond}/ACME/"${{2##*/}}" "$3"'}
 
 
 class Network:
