@@ -13,6 +13,9 @@ from bureau_calls import asked, connected, free_port
 
 BUREAU = os.path.abspath(os.environ.get("BUREAU") or f"{TOP}/bureau")
 OPERATOR = os.path.abspath(os.environ.get("OPERATOR") or f"{TOP}/operator")
+# Sources and decks of examples/, for jobs.
+DECKS = [("object", "two_lines.deck"), ("object", "primes.deck"), ("autocoder", "two_lines.source"),
+         ("object", "copy_and_count.deck"), ("autocoder", "sales_report.source")]
 
 
 def operator(*words, seconds=120):
