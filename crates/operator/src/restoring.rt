@@ -17,7 +17,7 @@ use ledger_tables::OpenFault;
 use machine::Meter;
 use sqlite::{Alter, Unknown};
 use std::alloc::AllocError;
-use std::io::Write;
+use std::io::{ErrorKind, Write};
 use std::{fs, io};
 
 /// Why the commands of a job were not all carried out.
@@ -298,17 +298,19 @@ fn restore_all<W: Write>(
     }
 }
 
-/// Whether something is at a path; then that is told.
+/// Whether something is at a path, or nothing can be; then that is told.
 pub(crate) fn is_taken<E: Write>(
     rt: &HostRuntime,
     path: &str,
     words: &str,
     errors: &mut E,
 ) -> io::Result<bool> {
-    if let Place::Nothing = place_at(rt, path)? {
-        return Ok(false);
+    match place_at(rt, path) {
+        Ok(Place::Nothing) => return Ok(false),
+        Ok(_) => writeln!(errors, "{path}: {words}")?,
+        Err(error) if error.kind() == ErrorKind::OutOfMemory => return Err(error),
+        Err(error) => writeln!(errors, "{path}: {error}")?,
     }
-    writeln!(errors, "{path}: {words}")?;
     Ok(true)
 }
 
