@@ -1,5 +1,5 @@
 -- a source that was assembled and run
-use Rattle.std.specs.Prelude.{ℕ, ◌≡◌, ◌<◌, ◌≤◌, List, length, map}
+use Rattle.std.specs.Prelude.{◌≡◌, ◌<◌, ◌≤◌, List, length, map}
 use Rattle.cards.specs.declared.Card.{Card}
 use Rattle.cards.specs.Decks.{largest_deck}
 use Rattle.core_store.specs.declared.sizes.Size.{Size}

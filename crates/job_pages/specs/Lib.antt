@@ -1,3 +1,4 @@
+pub mod Headings
 pub mod Jobs
 pub mod Facts
 pub mod Pages

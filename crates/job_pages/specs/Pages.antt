@@ -10,6 +10,7 @@ use Rattle.autocoder_listings.specs.Listing.{listing_with_code_for}
 use Rattle.loader.specs.Decks.{runnable_deck}
 use Rattle.pictures.specs.Decks.{figures_from, stock_definition}
 use Rattle.pictures.specs.Escapes.{escaped}
+use Rattle.pictures.specs.Heads.{page_head, page_heading}
 use Rattle.pictures.specs.Forms.{forms_of, sections}
 use Rattle.pictures.specs.declared.styles.TheConstants.{CARD_STYLE, FIGURE_STYLE, FORM_STYLE}
 use Rattle.job_pages.specs.declared.styles.TheConstants.{JOB_STYLE}
@@ -23,18 +24,22 @@ style = codes "<style>" ++ JOB_STYLE.now ++ FIGURE_STYLE.now ++ CARD_STYLE.now +
 
 -- the head of a page, with the name of the job
 abbrev pub job_head : List ℕ → List ℕ
-job_head name = codes "<!DOCTYPE html><html lang=en><meta charset=utf-8><title>" ++ escaped name
-    ++ codes "</title>" ++ style ++ codes "<h1>" ++ escaped name ++ codes "</h1>\n"
+job_head name = page_head name ++ style ++ page_heading name
 
 -- the source with its code
 abbrev pub code_shown : List ℕ → List ℕ
 code_shown code =
     codes "<h2>Source</h2><pre class=\"code\">\n" ++ escaped code ++ codes "</pre>\n"
 
+-- forms in a box of their own, which a narrow screen moves sideways
+abbrev pub boxed : List ℕ → List ℕ
+boxed forms = codes "<div class=\"paper\">\n" ++ forms ++ codes "</div>\n"
+
 -- the listing on its forms
 abbrev pub listing_shown : List ℕ → List ℕ
 listing_shown listing = codes "<h2>Listing</h2>\n"
-    ++ (if length listing == 0 then codes "<p>Nothing was printed.</p>\n" else sections (forms_of listing))
+    ++ (if length listing == 0 then codes "<p>Nothing was printed.</p>\n"
+    else boxed (sections (forms_of listing)))
 
 -- the stock of cards, and the figure of each
 abbrev pub figures : List Card → List ℕ

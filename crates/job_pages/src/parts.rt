@@ -1,14 +1,15 @@
 //! The parts of a page behind its table.
 
 ghost use Rattle.std.specs.Prelude.{◌≡◌, ◌++◌, OnOk};
-ghost use Rattle.job_pages.specs.Pages.{cards_shown, code_shown, job_head, listing_shown, style};
+ghost use Rattle.pictures.specs.Forms.{forms_of, sections};
+ghost use Rattle.job_pages.specs.Pages.{boxed, cards_shown, code_shown, job_head, listing_shown, style};
 
 use crate::styles::JOB_STYLE;
 use card_forms::images_of;
 use cards::Card;
 use pictures::{
     CARD_STYLE, FIGURE_STYLE, FORM_STYLE, push_card_figures, push_escaped, push_listing_forms,
-    push_stock_definition,
+    push_page_head, push_page_heading, push_stock_definition,
 };
 use std::alloc::{AllocError, Global};
 
@@ -28,13 +29,9 @@ fn push_style(out: &mut Vec<u8>) -> Result<(), AllocError>
 pub(crate) fn push_head(out: &mut Vec<u8>, name: &[u8]) -> Result<(), AllocError>
     ensures { OnOk result (out.new.items ≡ out.old.items ++ job_head name.now) }
 {
-    out.extend_from_slice(b"<!DOCTYPE html><html lang=en><meta charset=utf-8><title>")?;
-    push_escaped(out, name)?;
-    out.extend_from_slice(b"</title>")?;
+    push_page_head(out, name)?;
     push_style(out)?;
-    out.extend_from_slice(b"<h1>")?;
-    push_escaped(out, name)?;
-    out.extend_from_slice(b"</h1>\n")
+    push_page_heading(out, name)
 }
 
 /// Adds the source with its code.
@@ -46,6 +43,16 @@ pub(crate) fn push_code(out: &mut Vec<u8>, code: &[u8]) -> Result<(), AllocError
     out.extend_from_slice(b"</pre>\n")
 }
 
+/// Adds the forms of a listing in a box of their own.
+fn push_box(out: &mut Vec<u8>, listing: &[u8]) -> Result<(), AllocError>
+    ensures { OnOk result (out.new.items
+        ≡ out.old.items ++ boxed (sections (forms_of listing.now))) }
+{
+    out.extend_from_slice(b"<div class=\"paper\">\n")?;
+    push_listing_forms(out, listing)?;
+    out.extend_from_slice(b"</div>\n")
+}
+
 /// Adds the listing on its forms.
 pub(crate) fn push_listing(out: &mut Vec<u8>, listing: &[u8]) -> Result<(), AllocError>
     ensures { OnOk result (out.new.items ≡ out.old.items ++ listing_shown listing.now) }
@@ -54,7 +61,7 @@ pub(crate) fn push_listing(out: &mut Vec<u8>, listing: &[u8]) -> Result<(), Allo
     if listing.is_empty() {
         return out.extend_from_slice(b"<p>Nothing was printed.</p>\n");
     }
-    push_listing_forms(out, listing)
+    push_box(out, listing)
 }
 
 /// Adds the punched cards.

@@ -8,5 +8,7 @@ th{text-align:left;font-weight:normal;color:#666;padding:.15em 1.5em .15em 0;ver
 td{padding:.15em 0}\
 code{font:13px monospace;overflow-wrap:anywhere}\
 .code{font:12px/1.35 monospace;overflow:auto}\
+h1{overflow-wrap:anywhere}\
 h2{margin:1.5em 0 .5em}\
+.paper{overflow-x:auto}\
 @media print{h2{break-before:page}}";

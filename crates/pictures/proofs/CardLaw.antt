@@ -1,11 +1,11 @@
 -- a card's picture is read as the card
-use Rattle.std.proofs.Common.{◌≡◌, ℕ, ◌<◌, true, List, [], ◌∷◌, length, map, drop, get_or, refl, ap, sym, ◌∙◌}
+use Rattle.std.proofs.Common.{◌≡◌, ℕ, ◌<◌, List, [], ◌∷◌, length, map, drop, get_or, refl, ap, sym, ◌∙◌}
 use Rattle.std.proofs.lemmas.List.Elements.{All-head, All-tail}
 use Rattle.bcd.specs.Table.{glyph_of, punches_of}
 use Rattle.bcd.proofs.Tables.{glyphs_differ}
 use Rattle.cards.specs.Decks.{AreCharacters, IsCard}
 use Rattle.cards.specs.declared.Card.{Card}
-use Rattle.card_forms.specs.Images.{IsImage, character_of, image_of}
+use Rattle.card_forms.specs.Images.{IsImage, image_of}
 use Rattle.card_forms.specs.Signs.{filled}
 use Rattle.card_forms.specs.declared.images.CardImage.{CardImage}
 use Rattle.card_forms.proofs.FilledColumns.{filled_back, filled_characters}

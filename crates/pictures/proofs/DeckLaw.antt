@@ -12,6 +12,7 @@ use Rattle.card_forms.specs.Images.{IsImage, character_of, is_character}
 use Rattle.pictures.specs.Cards.{holes_drawn, holes_from, holes_path, marks, places, print, stock}
 use Rattle.pictures.specs.Decks.{captioned, deck_head, deck_page_of, figure, figures_from, stock_definition, titled_by_number}
 use Rattle.pictures.specs.Escapes.{card_glyphs, escape_of, escaped, glyph_printed}
+use Rattle.pictures.specs.Heads.{titled}
 use Rattle.pictures.specs.Reading.{Shows, behind_tags, figures_read, pieces, print_tag}
 use Rattle.pictures.specs.declared.styles.TheConstants.{CARD_STYLE, DECK_STYLE, FIGURE_STYLE}
 use Rattle.pictures.proofs.HolesRead.{by_corners, no_feed_in_outlines}
@@ -19,6 +20,7 @@ use Rattle.pictures.proofs.MarksRead.{corners_of, near, print_back, punches_show
 use Rattle.pictures.proofs.PictureTexts.{hole_rest, print_rest, tagged_marks}
 use Rattle.pictures.proofs.PiecesRead.{between, has_none, in_neither, none_in_both, none_in_decimal, one_piece, pieces_both}
 use Rattle.pictures.proofs.TextsRead.{none_in_escaped}
+use Rattle.pictures.proofs.TitlesRead.{plain_title}
 
 -- the line of a figure, without its line feed
 abbrev opening : List ℕ
@@ -200,31 +202,47 @@ figures_shown number (card ∷ deck) each few =
     rw lines (line_shows number card is_card (omega arith), figures_shown (number + 1) deck (All-tail IsImage card deck each) (omega arith))
 
 -- the first two lines of the page
-abbrev head_line : List ℕ
-head_line = ((codes "<!DOCTYPE html><html lang=en><meta charset=utf-8><title>Deck</title><style>" ++ DECK_STYLE.now) ++ FIGURE_STYLE.now) ++ (CARD_STYLE.now ++ codes "</style>")
+abbrev head_front : List ℕ
+head_front = codes "<!DOCTYPE html><html lang=en><meta charset=utf-8>" ++ codes "<meta name=viewport content=\"width=device-width,initial-scale=1\"><title>"
+
+abbrev head_style : List ℕ
+head_style = ((codes "</title><style>" ++ DECK_STYLE.now) ++ FIGURE_STYLE.now) ++ (CARD_STYLE.now ++ codes "</style><h1>")
+
+abbrev head_line : List ℕ → List ℕ
+head_line title = (head_front ++ titled title) ++ (head_style ++ (titled title ++ codes "</h1>"))
+
+plain_head : (title : List ℕ) → has_none 10 (head_line title) ≡ true
+plain_head title =
+    none_in_both 10 (head_front ++ titled title) (head_style ++ (titled title ++ codes "</h1>"))
+    (none_in_both 10 head_front (titled title) refl (plain_title title))
+    (none_in_both 10 head_style (titled title ++ codes "</h1>") refl (none_in_both 10 (titled title) (codes "</h1>") (plain_title title) refl))
 
 abbrev stock_line : List ℕ
 stock_line = (codes "<svg width=\"0\" height=\"0\" style=\"position:absolute\"><defs><g id=\"stock\">" ++ stock) ++ codes "</g></defs></svg>"
 
-head_is : deck_head ≡ head_line ++ 10 ∷ []
-head_is = refl
+head_parts : (f t e s d g c z h o u : List ℕ) → ((((((f ++ t ++ e) ++ s) ++ d) ++ g) ++ c) ++ z) ++ ((h ++ t) ++ (o ++ u)) ≡ ((f ++ t) ++ (((((e ++ s) ++ d) ++ g) ++ (c ++ (z ++ h))) ++ (t ++ o))) ++ u
+head_parts f t e s d g c z h o u = simp append_assoc
+
+head_is : (title : List ℕ) → deck_head title ≡ head_line title ++ 10 ∷ []
+head_is title = head_parts head_front (titled title) (codes "</title>") (codes "<style>") DECK_STYLE.now FIGURE_STYLE.now CARD_STYLE.now (codes "</style>") (codes "<h1>") (codes "</h1>") (10 ∷ [])
 
 regroup : (h s f : List ℕ) → ((h ++ 10 ∷ []) ++ (s ++ 10 ∷ [])) ++ f ≡ h ++ 10 ∷ (s ++ 10 ∷ f)
 regroup h s f = simp append_assoc
 
-page_is : (deck : List CardImage) → deck_page_of deck ≡ head_line ++ 10 ∷ (stock_line ++ 10 ∷ figures_from 1 deck)
-page_is deck =
+page_is : (title : List ℕ) (deck : List CardImage) → deck_page_of title deck ≡ head_line title ++ 10 ∷ (stock_line ++ 10 ∷ figures_from 1 deck)
+page_is title deck =
     let stock_is : stock_definition ≡ stock_line ++ 10 ∷ [] =
     sym (append_assoc (codes "<svg width=\"0\" height=\"0\" style=\"position:absolute\"><defs><g id=\"stock\">" ++ stock) (codes "</g></defs></svg>") (10 ∷ [])) in
-    ap (λ text. (text ++ stock_definition) ++ figures_from 1 deck) head_is
-    ∙ ap (λ text. ((head_line ++ 10 ∷ []) ++ text) ++ figures_from 1 deck) stock_is
-    ∙ regroup head_line stock_line (figures_from 1 deck)
+    ap (λ text. (text ++ stock_definition) ++ figures_from 1 deck) (head_is title)
+    ∙ ap (λ text. ((head_line title ++ 10 ∷ []) ++ text) ++ figures_from 1 deck) stock_is
+    ∙ regroup (head_line title) stock_line (figures_from 1 deck)
 
-pub figures_show : (deck : List CardImage) → All IsImage deck → length deck < 2 ^ 63 → AllZip Shows (figures_read (deck_page_of deck)) deck
+pub figures_show : (title : List ℕ) (deck : List CardImage) → All IsImage deck → length deck < 2 ^ 63 → AllZip Shows (figures_read (deck_page_of title deck)) deck
 unfolding figures_read
-figures_show deck each few =
+figures_show title deck each few =
     let rest = figures_from 1 deck in
     let plain : has_none 10 stock_line ≡ true = none_in_both 10 (codes "<svg width=\"0\" height=\"0\" style=\"position:absolute\"><defs><g id=\"stock\">" ++ stock) (codes "</g></defs></svg>") plain_stock refl in
-    let lines : pieces 10 (deck_page_of deck) ≡ head_line ∷ (stock_line ∷ pieces 10 rest) =
-    ap (pieces 10) (page_is deck) ∙ next_line head_line (stock_line ++ 10 ∷ rest) refl ∙ ap (λ lines. head_line ∷ lines) (next_line stock_line rest plain) in
+    let head = head_line title in
+    let lines : pieces 10 (deck_page_of title deck) ≡ head ∷ (stock_line ∷ pieces 10 rest) =
+    ap (pieces 10) (page_is title deck) ∙ next_line head (stock_line ++ 10 ∷ rest) (plain_head title) ∙ ap (λ lines. head ∷ lines) (next_line stock_line rest plain) in
     subst (λ (parts : List (List ℕ)). AllZip Shows (filter is_figure parts) deck) (sym lines) (figures_shown 1 deck each (omega (arith, few)))

@@ -8,6 +8,7 @@ pub mod ListingPlaces
 pub mod PictureTexts
 pub mod PiecesRead
 pub mod TextsRead
+pub mod TitlesRead
 pub mod MarksRead
 pub mod DeckLaw
 pub mod CardLaw

@@ -6,9 +6,12 @@ use Rattle.std.proofs.lemmas.List.Splits.{join_with_byte-slice_split, length-sli
 use Rattle.std.proofs.lemmas.List.Sums.{count_by-le-length}
 use Rattle.pictures.specs.Escapes.{escaped}
 use Rattle.pictures.specs.Forms.{form_opening, form_section, forms_of, is_form_feed, listing_head, pages, sections, sections_from}
+use Rattle.pictures.specs.Heads.{titled}
+use Rattle.pictures.specs.declared.styles.TheConstants.{FORM_STYLE, LISTING_STYLE}
 use Rattle.pictures.specs.Reading.{behind_tags, form_tag, listing_read, unescaped}
 use Rattle.pictures.proofs.PiecesRead.{IsTagged, behind_both, has_none, none_in_both, none_in_decimal, one_piece}
 use Rattle.pictures.proofs.TextsRead.{none_in_escaped, texts_read_back}
+use Rattle.pictures.proofs.TitlesRead.{untagged_title}
 
 -- what stands on the pages as text of forms
 abbrev shown : List ℕ → List (List ℕ)
@@ -64,13 +67,32 @@ sections_shown number count (form ∷ forms) few all =
     ∙ ap (λ texts. texts ++ shown (sections_from (number + 1) count forms)) (section_shown number count form (omega arith) all)
     ∙ ap (λ texts. escaped form ∷ texts) (sections_shown (number + 1) count forms (omega arith) all)
 
-head_shown : shown listing_head ≡ []
-head_shown = refl
+title_shown : (text : List ℕ) → has_none 60 text ≡ true → shown (codes "<title>" ++ text) ≡ []
+title_shown text none = rw (one_piece 60 (codes "title>" ++ text) none) refl
 
-pages_shown : (listing : List ℕ) → 1 + length (forms_of listing) < 2 ^ 64 → shown (pages listing) ≡ map escaped (forms_of listing)
-pages_shown listing few =
-    behind_both 112 (codes "re>\n") listing_head (sections (forms_of listing)) (tagged_sections 1 (length (forms_of listing)) (forms_of listing))
-    ∙ ap (λ texts. texts ++ shown (sections (forms_of listing))) head_shown
+-- what stands before the title, and behind it
+abbrev before : List ℕ
+before = codes "<!DOCTYPE html><html lang=en><meta charset=utf-8>" ++ codes "<meta name=viewport content=\"width=device-width,initial-scale=1\">"
+
+abbrev behind : List ℕ
+behind = (((codes "</title>" ++ codes "<style>") ++ LISTING_STYLE.now) ++ FORM_STYLE.now) ++ codes "</style>\n"
+
+head_parts : (b o t c s l f e : List ℕ) → (((((b ++ o) ++ t ++ c) ++ s) ++ l) ++ f) ++ e ≡ (b ++ (o ++ t)) ++ ((((c ++ s) ++ l) ++ f) ++ e)
+head_parts b o t c s l f e = simp append_assoc
+
+head_shown : (title : List ℕ) → shown (listing_head title) ≡ []
+head_shown title =
+    let text = titled title in
+    let parted : listing_head title ≡ (before ++ (codes "<title>" ++ text)) ++ behind =
+    head_parts before (codes "<title>") text (codes "</title>") (codes "<style>") LISTING_STYLE.now FORM_STYLE.now (codes "</style>\n") in
+    ap shown parted
+    ∙ behind_both 112 (codes "re>\n") (before ++ (codes "<title>" ++ text)) behind refl
+    ∙ ap (λ texts. texts ++ []) (behind_both 112 (codes "re>\n") before (codes "<title>" ++ text) refl ∙ title_shown text (untagged_title title))
+
+pages_shown : (title listing : List ℕ) → 1 + length (forms_of listing) < 2 ^ 64 → shown (pages title listing) ≡ map escaped (forms_of listing)
+pages_shown title listing few =
+    behind_both 112 (codes "re>\n") (listing_head title) (sections (forms_of listing)) (tagged_sections 1 (length (forms_of listing)) (forms_of listing))
+    ∙ ap (λ texts. texts ++ shown (sections (forms_of listing))) (head_shown title)
     ∙ sections_shown 1 (length (forms_of listing)) (forms_of listing) few (omega arith)
 
 -- the forms, joined, are the listing
@@ -89,9 +111,9 @@ few_forms listing =
       | false ↦ λ some. rw some (omega (arith, length-slice_split is_form_feed listing, count_by-le-length is_form_feed listing))
     ]) refl
 
-pub pages_read : (listing : List ℕ) → length listing < 2 ^ 63 → listing_read (pages listing) ≡ listing
+pub pages_read : (title listing : List ℕ) → length listing < 2 ^ 63 → listing_read (pages title listing) ≡ listing
 unfolding listing_read
-pages_read listing small =
-    ap (λ texts. join_with_byte 12 (map unescaped texts)) (pages_shown listing (omega (arith, few_forms listing)))
+pages_read title listing small =
+    ap (λ texts. join_with_byte 12 (map unescaped texts)) (pages_shown title listing (omega (arith, few_forms listing)))
     ∙ ap (join_with_byte 12) (texts_read_back (forms_of listing))
     ∙ joined listing

@@ -7,7 +7,7 @@ use Rattle.pictures.specs.Reading.{piece_read, pieces, pieces_read, unescaped}
 use Rattle.pictures.proofs.PiecesRead.{has_none, none_in_both, some_piece}
 
 -- an escape holds no tag
-none_in_escape : (byte : ℕ) → has_none 60 (escape_of byte) ≡ true
+pub none_in_escape : (byte : ℕ) → has_none 60 (escape_of byte) ≡ true
 unfolding escape_of
 none_in_escape byte =
     (elim (byte == 38) as (λ t. (byte == 38) ≡ t → has_none 60 (escape_of byte) ≡ true) [

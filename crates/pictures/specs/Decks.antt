@@ -3,6 +3,7 @@ use Rattle.std.specs.Prelude.{ℕ, ◌+◌, List, [], ◌∷◌, ◌++◌, codes
 use Rattle.card_forms.specs.declared.images.CardImage.{CardImage}
 use Rattle.pictures.specs.Cards.{marks, stock}
 use Rattle.pictures.specs.Escapes.{card_glyphs}
+use Rattle.pictures.specs.Heads.{page_head, page_heading}
 use Rattle.pictures.specs.declared.styles.TheConstants.{CARD_STYLE, DECK_STYLE, FIGURE_STYLE}
 
 -- the stock of the cards, which shows nothing and which each figure uses
@@ -32,11 +33,12 @@ unfoldable pub figures_from : ℕ → List CardImage → List ℕ
 figures_from number [] = []
 figures_from number (card ∷ cards) = figure number card ++ figures_from (number + 1) cards
 
--- the head of the page of a deck
-abbrev pub deck_head : List ℕ
-deck_head = codes "<!DOCTYPE html><html lang=en><meta charset=utf-8><title>Deck</title><style>"
-    ++ DECK_STYLE.now ++ FIGURE_STYLE.now ++ CARD_STYLE.now ++ codes "</style>\n"
+-- the head of the page of a deck with a title
+abbrev pub deck_head : List ℕ → List ℕ
+deck_head title = page_head title ++ codes "<style>"
+    ++ DECK_STYLE.now ++ FIGURE_STYLE.now ++ CARD_STYLE.now ++ codes "</style>"
+    ++ page_heading title
 
--- the page of a deck
-abbrev pub deck_page_of : List CardImage → List ℕ
-deck_page_of deck = deck_head ++ stock_definition ++ figures_from 1 deck
+-- the page of a deck with a title
+abbrev pub deck_page_of : List ℕ → List CardImage → List ℕ
+deck_page_of title deck = deck_head title ++ stock_definition ++ figures_from 1 deck

@@ -2,6 +2,7 @@
 use Rattle.std.specs.Prelude.{ℕ, ◌+◌, ◌==◌, Bool, if◌then◌else◌, List, [], ◌∷◌, ◌++◌, length, codes, decimal}
 use Rattle.std.specs.List.{slice_split}
 use Rattle.pictures.specs.Escapes.{escaped}
+use Rattle.pictures.specs.Heads.{page_head}
 use Rattle.pictures.specs.declared.styles.TheConstants.{FORM_STYLE, LISTING_STYLE}
 
 -- whether a byte is a form feed
@@ -36,12 +37,11 @@ sections_from number count (form ∷ forms) =
 abbrev pub sections : List (List ℕ) → List ℕ
 sections forms = sections_from 1 (length forms) forms
 
--- the head of the pages of a listing
-abbrev pub listing_head : List ℕ
-listing_head =
-    codes "<!DOCTYPE html><html lang=en><meta charset=utf-8><title>Listing</title><style>"
+-- the head of the pages of a listing with a title
+abbrev pub listing_head : List ℕ → List ℕ
+listing_head title = page_head title ++ codes "<style>"
     ++ LISTING_STYLE.now ++ FORM_STYLE.now ++ codes "</style>\n"
 
--- the pages of a listing
-abbrev pub pages : List ℕ → List ℕ
-pages listing = listing_head ++ sections (forms_of listing)
+-- the pages of a listing with a title
+abbrev pub pages : List ℕ → List ℕ → List ℕ
+pages title listing = listing_head title ++ sections (forms_of listing)

@@ -5,6 +5,7 @@ ghost use Rattle.pictures.specs.Decks.{captioned, deck_head, deck_page_of, figur
 
 use crate::card_pictures::push_marks;
 use crate::escapes::push_card_glyphs;
+use crate::heads::{push_page_head, push_page_heading};
 use crate::stocks::push_stock;
 use crate::styles::{CARD_STYLE, DECK_STYLE, FIGURE_STYLE};
 use card_forms::CardImage;
@@ -57,16 +58,16 @@ fn push_card_figure(out: &mut Vec<u8>, number: usize, card: &CardImage) -> Resul
 }
 
 /// Adds the head of the page of a deck.
-fn push_head(out: &mut Vec<u8>) -> Result<(), AllocError>
-    ensures { OnOk result (out.new.items ≡ out.old.items ++ deck_head) }
+fn push_head(out: &mut Vec<u8>, title: &[u8]) -> Result<(), AllocError>
+    ensures { OnOk result (out.new.items ≡ out.old.items ++ deck_head title.now) }
 {
-    out.extend_from_slice(
-        b"<!DOCTYPE html><html lang=en><meta charset=utf-8><title>Deck</title><style>",
-    )?;
+    push_page_head(out, title)?;
+    out.extend_from_slice(b"<style>")?;
     out.extend_from_slice(DECK_STYLE)?;
     out.extend_from_slice(FIGURE_STYLE)?;
     out.extend_from_slice(CARD_STYLE)?;
-    out.extend_from_slice(b"</style>\n")
+    out.extend_from_slice(b"</style>")?;
+    push_page_heading(out, title)
 }
 
 /// Adds the figures of cards, each with its number under it, for a page that has the stock already
@@ -80,15 +81,15 @@ pub fn push_card_figures(out: &mut Vec<u8>, cards: &[CardImage]) -> Result<(), A
     Ok(())
 }
 
-/// Returns the page of a deck, an HTML file that stands alone: all its cards, with the number of
-/// each under it.
+/// Returns the page of a deck, an HTML file that stands alone: its title, and all its cards with
+/// the number of each under it.
 ///
 /// Fails only if there is no memory.
-pub fn deck_page(alloc: Global, deck: &[CardImage]) -> Result<Vec<u8>, AllocError>
-    ensures { IfOk result (λ page. page.items ≡ deck_page_of deck.now) }
+pub fn deck_page(alloc: Global, title: &[u8], deck: &[CardImage]) -> Result<Vec<u8>, AllocError>
+    ensures { IfOk result (λ page. page.items ≡ deck_page_of title.now deck.now) }
 {
     let mut out = Vec::new(alloc);
-    push_head(&mut out)?;
+    push_head(&mut out, title)?;
     push_stock_definition(&mut out)?;
     push_card_figures(&mut out, deck)?;
     Ok(out)

@@ -37,15 +37,16 @@ pub fn pictures_differ()
         picture (image_of one) ≡ picture (image_of two) → one ≡ two }
 {}
 
-/// The law of decks: the figures on the page of a deck are as many as its cards, and each shows its
-/// card, the holes and the print.
+/// The law of decks: the figures on the page of a deck, whatever its title, are as many as its
+/// cards, and each shows its card, the holes and the print.
 pub fn figures_are_the_cards()
-    ensures { (deck : List CardImage) → All IsImage deck → length deck < 2 ^ 63 →
-        AllZip Shows (figures_read (deck_page_of deck)) deck }
+    ensures { (title : List ℕ) (deck : List CardImage) → All IsImage deck → length deck < 2 ^ 63 →
+        AllZip Shows (figures_read (deck_page_of title deck)) deck }
 {}
 
-/// The law of pages: the texts of their forms, with a form feed between two, are the listing.
+/// The law of pages: the texts of their forms, with a form feed between two, are the listing,
+/// whatever the title is.
 pub fn listing_is_read()
-    ensures { (listing : List ℕ) → length listing < 2 ^ 63 →
-        listing_read (pages listing) ≡ listing }
+    ensures { (title listing : List ℕ) → length listing < 2 ^ 63 →
+        listing_read (pages title listing) ≡ listing }
 {}

@@ -19,6 +19,7 @@ mod escapes;
 mod faults;
 mod finding;
 mod forms;
+mod heads;
 mod holes;
 mod laws;
 mod listings;
@@ -30,6 +31,7 @@ pub use deck_pages::{deck_page, push_card_figures, push_stock_definition};
 pub use escapes::push_escaped;
 pub use faults::{ListingError, ListingFault};
 pub use forms::push_listing_forms;
+pub use heads::{push_page_head, push_page_heading};
 pub use laws::{
     figures_are_the_cards, holes_are_the_punches, listing_is_read, pictures_differ, print_is_read,
 };

@@ -17,25 +17,32 @@ figcaption{padding:.1em .3em}\
 
 /// The look of a form: fourteen and seven eighths by eleven inches, bands of three lines at six to
 /// the inch, and 132 columns at ten to the inch, for any letters that are six tenths as wide as
-/// they are high.
+/// they are high. What is an inch on paper is less on a narrow screen, but no less than letters of
+/// a size to read need.
 pub const FORM_STYLE: &[u8] = b"\
-.form{position:relative;width:14.875in;min-height:11in;margin:.3in auto;background:#fdfdf8;\
+.form{--inch:clamp(.68in,100vw/15.5,1in);position:relative;width:calc(14.875*var(--inch));\
+min-height:calc(11*var(--inch));margin:calc(.3*var(--inch)) auto;background:#fdfdf8;\
 box-shadow:0 2px 9px #0008}\
-.band{position:absolute;left:.5in;right:.5in;top:0;bottom:0;\
-background:repeating-linear-gradient(#dcefdc 0 .5in,#fdfdf8 .5in 1in)}\
-.strip{position:absolute;top:0;bottom:0;width:.5in;\
-background:radial-gradient(circle at .25in .25in,#777 .078in,transparent .084in) 0 0/.5in .5in}\
+.band{position:absolute;left:calc(.5*var(--inch));right:calc(.5*var(--inch));top:0;bottom:0;\
+background:repeating-linear-gradient(#dcefdc 0 calc(.5*var(--inch)),#fdfdf8 calc(.5*var(--inch)) \
+var(--inch))}\
+.strip{position:absolute;top:0;bottom:0;width:calc(.5*var(--inch));\
+background:radial-gradient(circle,#777 calc(.078*var(--inch)),transparent calc(.084*var(--inch))) \
+0 0/calc(.5*var(--inch)) calc(.5*var(--inch))}\
 .strip.r{right:0}\
-.form pre{position:relative;margin:0 0 0 .8375in;color:#222;\
-font:.16in/calc(1in/6) 'Courier Prime','Courier New','Liberation Mono',monospace;\
-letter-spacing:calc(.1in - .6 * .16in)}\
-.no{position:absolute;right:.55in;bottom:.02in;font:.1in sans-serif;color:#7a9a7a}\
-@media print{.form{margin:0;box-shadow:none;break-after:page}\
+.form pre{position:relative;margin:0 0 0 calc(.8375*var(--inch));color:#222;\
+font:calc(.16*var(--inch))/calc(var(--inch)/6) \
+'Courier Prime','Courier New','Liberation Mono',monospace;\
+letter-spacing:calc(.004*var(--inch))}\
+.no{position:absolute;right:calc(.55*var(--inch));bottom:calc(.02*var(--inch));\
+font:calc(.1*var(--inch)) sans-serif;color:#7a9a7a}\
+@media print{.form{--inch:1in;margin:0;box-shadow:none;break-after:page}\
 .form *{-webkit-print-color-adjust:exact;print-color-adjust:exact}}";
 
 /// The page on which the cards of a deck stand.
 pub(crate) const DECK_STYLE: &[u8] = b"\
 body{background:#5b5348;margin:1em;font:14px sans-serif;color:#eee}\
+h1{font-size:1.3em;overflow-wrap:anywhere}\
 @media print{body{background:#fff;color:#000}}";
 
 /// The pages on which the forms of a listing stand; a sheet of paper has the size of a form.

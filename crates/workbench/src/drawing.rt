@@ -32,13 +32,23 @@ pub(crate) fn draw_card<W: Write, E: Write>(
     process.write(out, &picture)
 }
 
+/// What a page is called: its title, or without one the name of the file that it shows.
+pub(crate) fn title_or_name<'a>(title: Option<&'a str>, path: &'a str) -> &'a str {
+    match title {
+        Some(title) => title,
+        None => path.rsplit('/').next().unwrap_or(path),
+    }
+}
+
 /// Writes the page of a deck.
 pub(crate) fn draw_deck<W: Write, E: Write>(
     process: &mut Process<W, E>,
     (path, out): (&str, &str),
+    title: Option<&str>,
 ) -> Result<Status, Undone> {
     let deck = process.images_at(path)?;
-    let page = deck_page(process.alloc(), &deck)?;
+    let title = title_or_name(title, path);
+    let page = deck_page(process.alloc(), title.as_bytes(), &deck)?;
     process.write(out, &page)
 }
 
@@ -64,9 +74,11 @@ fn tell_fault<E: Write>(errors: &mut E, path: &str, fault: ListingFault) -> io::
 pub(crate) fn draw_pages<W: Write, E: Write>(
     process: &mut Process<W, E>,
     (path, out): (&str, &str),
+    title: Option<&str>,
 ) -> Result<Status, Undone> {
     let listing = process.read(path)?;
-    match listing_pages(process.alloc(), &listing) {
+    let title = title_or_name(title, path);
+    match listing_pages(process.alloc(), title.as_bytes(), &listing) {
         Ok(pages) => process.write(out, &pages),
         Err(fault) => Err(tell_fault(&mut process.errors, path, fault)?),
     }

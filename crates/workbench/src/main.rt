@@ -100,9 +100,13 @@ fn work<W: Write, E: Write>(
         Task::Profile { setup, names } => profile_deck(process, *setup, *names),
         Task::Console { setup, names } => talk(process, *setup, *names),
         Task::Card { deck, number, out } => draw_card(process, (deck, out), *number),
-        Task::Deck { deck, out } => draw_deck(process, (deck, out)),
-        Task::Pages { listing, out } => draw_pages(process, (listing, out)),
-        Task::Page { setup, out } => write_page(process, *setup, out),
+        Task::Deck { deck, out, title } => draw_deck(process, (deck, out), *title),
+        Task::Pages {
+            listing,
+            out,
+            title,
+        } => draw_pages(process, (listing, out), *title),
+        Task::Page { setup, out, title } => write_page(process, *setup, out, *title),
     }
 }
 

@@ -114,21 +114,21 @@ workbench = record {
       ∷ (
         name.Deck,
         codes "deck",
-        (codes "DECK", Value) ∷ (codes "OUT", Value) ∷ [],
-        codes "deck DECK OUT",
+        (codes "DECK", Value) ∷ (codes "OUT", Value) ∷ (codes "title", Setting) ∷ [],
+        codes "deck DECK OUT [--title TEXT]",
       )
       ∷ (
         name.Pages,
         codes "pages",
-        (codes "LISTING", Value) ∷ (codes "OUT", Value) ∷ [],
-        codes "pages LISTING OUT",
+        (codes "LISTING", Value) ∷ (codes "OUT", Value) ∷ (codes "title", Setting) ∷ [],
+        codes "pages LISTING OUT [--title TEXT]",
       )
       ∷ (
         name.Page,
         codes "page",
         (codes "SOURCE", Value) ∷ (codes "SIZE", Value) ∷ (codes "SWITCHES", Value)
-            ∷ (codes "OUT", Value) ∷ [],
-        codes "page SOURCE SIZE SWITCHES OUT",
+            ∷ (codes "OUT", Value) ∷ (codes "title", Setting) ∷ [],
+        codes "page SOURCE SIZE SWITCHES OUT [--title TEXT]",
       )
       ∷ [];
 }

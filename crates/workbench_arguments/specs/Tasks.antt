@@ -201,20 +201,23 @@ WantsCard found other = ⊥
 
 -- the task of `deck`
 abbrev pub WantsDeck : List Row → Task → Type 0
-WantsDeck found (Deck deck out) =
+WantsDeck found (Deck deck out title) =
     HasArgument (codes "DECK") found deck.now × HasArgument (codes "OUT") found out.now
+    × MayHaveArgument (codes "title") found title
 WantsDeck found other = ⊥
 
 -- the task of `pages`
 abbrev pub WantsPages : List Row → Task → Type 0
-WantsPages found (Pages listing out) =
+WantsPages found (Pages listing out title) =
     HasArgument (codes "LISTING") found listing.now × HasArgument (codes "OUT") found out.now
+    × MayHaveArgument (codes "title") found title
 WantsPages found other = ⊥
 
 -- the task of `page`
 abbrev pub WantsPage : List Row → Task → Type 0
-WantsPage found (Page setup out) =
+WantsPage found (Page setup out title) =
     IsSetup (codes "SOURCE") found setup × HasArgument (codes "OUT") found out.now
+    × MayHaveArgument (codes "title") found title
 WantsPage found other = ⊥
 
 -- the task of a subcommand, by what was found after its name

@@ -27,9 +27,9 @@ usage: workbench SUBCOMMAND ARGUMENTS.. [OPTIONS]
   profile DECK SIZE SWITCHES [OPTIONS]  prints how often each instruction ran
   console DECK SIZE SWITCHES [OPTIONS]  goes through a run step by step
   card DECK N OUT                       draws a card
-  deck DECK OUT                         draws the cards of a deck on a page
-  pages LISTING OUT                     draws a listing as pages of paper
-  page SOURCE SIZE SWITCHES OUT         draws a job: source, run, what came out
+  deck DECK OUT [--title TEXT]          draws the cards of a deck on a page
+  pages LISTING OUT [--title TEXT]      draws a listing as pages of paper
+  page SOURCE SIZE SWITCHES OUT [..]    draws a job: source, run, what came out
 
   workbench SUBCOMMAND --help           prints the help of one (or -h)
   workbench --help                      prints this text (or -h)
@@ -396,41 +396,49 @@ column whose holes are no character's is blank. It needs no other file.
 
 /// The text that `deck --help` prints.
 pub const DECK_HELP: &str = "\
-workbench deck DECK OUT: draws the cards of a deck on one page (HTML).
+workbench deck DECK OUT [--title TEXT]: draws the cards of a deck on one page
+(HTML).
 
-DECK  a deck text or a punch file
-OUT   the page
+DECK          a deck text or a punch file
+OUT           the page
+--title TEXT  what the page is called; without it the name of DECK
 
 example:
   workbench deck examples/two_lines.deck two_lines.html
-  workbench deck ACME-9.cards ACME-9.html
+  workbench deck ACME-9.cards ACME-9.html --title 'What job 9 of ACME punched'
 
 The page has no script and needs no other file.
 ";
 
 /// The text that `pages --help` prints.
 pub const PAGES_HELP: &str = "\
-workbench pages LISTING OUT: draws a listing as pages of paper with bars (HTML).
+workbench pages LISTING OUT [--title TEXT]: draws a listing as pages of paper
+with bars (HTML).
 
-LISTING  the lines of a job, as bureau run and bureau export write them
-OUT      the pages
+LISTING       the lines of a job, as bureau run and bureau export write them
+OUT           the pages
+--title TEXT  what they are called; without it the name of LISTING
 
 example:
   bureau run examples/primes.deck 4000 A > primes.lines
   workbench pages primes.lines primes.html
 
 A form is a page of 66 lines and 132 columns. The pages have no script and need
-no other file.
+no other file. On a narrow screen a form is smaller, and moves sideways where
+its letters would be too small to read; on paper it has its own size.
 ";
 
 /// The text that `page --help` prints.
 pub const PAGE_HELP: &str = "\
-workbench page SOURCE SIZE SWITCHES OUT: draws a job on one page (HTML).
+workbench page SOURCE SIZE SWITCHES OUT [--title TEXT]: draws a job on one page
+(HTML).
 
 SOURCE          a deck text that begins with the source; the cards behind it are
                 the job's data
 SIZE, SWITCHES  as trace --help has them
 OUT             the page
+--title TEXT    what the page is called; without it what the first JOB card of
+                SOURCE says, or where there is none the name of SOURCE
 
 example:
   workbench page examples/two_lines.source 4000 A two_lines.html

@@ -25,7 +25,8 @@ pub(crate) fn deck_task<'a>(found: &Found<'a>) -> Result<Task<'a>, Mistake<'stat
 {
     let deck = found.needed("DECK")?;
     let out = found.needed("OUT")?;
-    Ok(Task::Deck { deck, out })
+    let title = found.value("title");
+    Ok(Task::Deck { deck, out, title })
 }
 
 /// The task of a subcommand `pages`.
@@ -34,7 +35,12 @@ pub(crate) fn pages_task<'a>(found: &Found<'a>) -> Result<Task<'a>, Mistake<'sta
 {
     let listing = found.needed("LISTING")?;
     let out = found.needed("OUT")?;
-    Ok(Task::Pages { listing, out })
+    let title = found.value("title");
+    Ok(Task::Pages {
+        listing,
+        out,
+        title,
+    })
 }
 
 /// The task of a subcommand `page`.
@@ -43,5 +49,6 @@ pub(crate) fn page_task<'a>(found: &Found<'a>) -> Result<Task<'a>, Mistake<'stat
 {
     let setup = setup_in(found, "SOURCE")?;
     let out = found.needed("OUT")?;
-    Ok(Task::Page { setup, out })
+    let title = found.value("title");
+    Ok(Task::Page { setup, out, title })
 }

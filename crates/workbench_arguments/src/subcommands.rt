@@ -212,14 +212,22 @@ const SUBCOMMANDS: [Syntax<Subcommand>; 17] = [
     Syntax {
         subcommand: Subcommand::Deck,
         name: "deck",
-        arguments: &[("DECK", Kind::Value), ("OUT", Kind::Value)],
-        usage: "deck DECK OUT",
+        arguments: &[
+            ("DECK", Kind::Value),
+            ("OUT", Kind::Value),
+            ("title", Kind::Setting),
+        ],
+        usage: "deck DECK OUT [--title TEXT]",
     },
     Syntax {
         subcommand: Subcommand::Pages,
         name: "pages",
-        arguments: &[("LISTING", Kind::Value), ("OUT", Kind::Value)],
-        usage: "pages LISTING OUT",
+        arguments: &[
+            ("LISTING", Kind::Value),
+            ("OUT", Kind::Value),
+            ("title", Kind::Setting),
+        ],
+        usage: "pages LISTING OUT [--title TEXT]",
     },
     Syntax {
         subcommand: Subcommand::Page,
@@ -229,8 +237,9 @@ const SUBCOMMANDS: [Syntax<Subcommand>; 17] = [
             ("SIZE", Kind::Value),
             ("SWITCHES", Kind::Value),
             ("OUT", Kind::Value),
+            ("title", Kind::Setting),
         ],
-        usage: "page SOURCE SIZE SWITCHES OUT",
+        usage: "page SOURCE SIZE SWITCHES OUT [--title TEXT]",
     },
 ];
 

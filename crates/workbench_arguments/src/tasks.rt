@@ -236,6 +236,8 @@ pub enum Task<'a> {
         deck: &'a str,
         /// The path of the page.
         out: &'a str,
+        /// The title of the page, if it is given.
+        title: Option<&'a str>,
     },
     /// Draw a listing as pages of paper.
     Pages {
@@ -243,6 +245,8 @@ pub enum Task<'a> {
         listing: &'a str,
         /// The path of the pages.
         out: &'a str,
+        /// The title of the pages, if it is given.
+        title: Option<&'a str>,
     },
     /// Draw a job on a page.
     Page {
@@ -250,6 +254,8 @@ pub enum Task<'a> {
         setup: Setup<'a>,
         /// The path of the page.
         out: &'a str,
+        /// The title of the page, if it is given.
+        title: Option<&'a str>,
     },
 }
 

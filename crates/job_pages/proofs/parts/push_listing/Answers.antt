@@ -10,5 +10,5 @@ returns-then-is_empty c =
 pub returns : goal.returns
 returns c =
     let some : (length c.args.listing.now == 0) ≡ false = sym c.is_empty.ensures ∙ c.if-is_empty.false in
-    let done = at_end c.push_listing_forms.result c.push_listing_forms.ensures (λ last. more c.args.out.now.items _ _ _ _ c.in_ok-extend_from_slice.ensures.items last) in
+    let done = at_end c.push_box.result c.push_box.ensures (λ last. more c.args.out.now.items _ _ _ _ c.in_ok-extend_from_slice.ensures.items last) in
     rw some (rw some at done)

@@ -4,4 +4,4 @@ use Rattle.pictures.proofs.listings.push_head.Goals as goal
 pub returns : goal.returns
 returns c =
     let o = c.args.out.now.items in
-    last_piece c.extend_from_slice-4.result o _ _ _ _ (more o _ _ _ _ (more o _ _ _ _ c.in_ok-extend_from_slice.ensures.items c.in_ok-extend_from_slice-2.ensures.items) c.in_ok-extend_from_slice-3.ensures.items) c.extend_from_slice-4.ensures.items
+    last_piece c.extend_from_slice-4.result o _ _ _ _ (more o _ _ _ _ (more o _ _ _ _ (more o _ _ _ _ c.in_ok-push_page_head.ensures c.in_ok-extend_from_slice.ensures.items) c.in_ok-extend_from_slice-2.ensures.items) c.in_ok-extend_from_slice-3.ensures.items) c.extend_from_slice-4.ensures.items
