@@ -8,7 +8,7 @@ use command_line::Status;
 use queue_rounds::{JobRow, push_page_row, push_row};
 use std::alloc::{AllocError, Global};
 use std::fs::File;
-use std::io::Write;
+use std::io::{ErrorKind, Write};
 use std::time::Duration;
 use std::{fs, io, thread};
 use texts::{is_customer, read_up_to};
@@ -49,6 +49,13 @@ const PAGE_HEADING: &str = "\
 
 /// What a page ends with.
 const PAGE_END: &str = "</tbody>\n</table>\n</div>\n</body>\n</html>\n";
+
+/// What is said where somebody else has the page's name.
+const FOREIGN: &str = "this is not the page that was written last; give the page another name";
+
+/// What is said where a page cannot be written.
+const UNWRITTEN: &str = "no page can be written there: its folder is missing or may not be written \
+                         to, or its disk is full or knows no hard links; ls -ld and df -T show which";
 
 /// What a list of customers is not.
 enum NoNames {
@@ -177,6 +184,19 @@ impl Table {
         )
     }
 
+    /// Tells of how many customers there was no answer. Returns the status that this gives.
+    fn tell_untold<E: Write>(&self, port: u16, errors: &mut E) -> io::Result<Status> {
+        let untold = self.untold;
+        if untold == 0 {
+            return Ok(Status::Done);
+        }
+        writeln!(
+            errors,
+            "port {port}: no answer of a bureau for {untold} of the customers; begin bureau serve there"
+        )?;
+        Ok(Status::NotDone)
+    }
+
     /// Prints the table.
     fn print<W: Write>(&self, output: &mut W) -> io::Result<()> {
         output.write_all(HEADING.as_bytes())?;
@@ -209,24 +229,96 @@ impl Table {
     }
 }
 
-/// Writes a page under another name, and gives it its own: a new one where nothing has the name, or
-/// in the place of the one before.
-fn write_page(rt: &HostRuntime, path: &str, is_new: bool, page: &[u8]) -> io::Result<()> {
-    let part = format!(in rt.alloc(); "{path}.part")?;
-    let part = part.as_str();
-    let mut done = write_new(rt, part, page);
-    if done.is_ok() {
-        done = if is_new {
-            publish(rt, part, path)
-        } else {
-            fs::rename(rt, part, path)
-        };
+/// What is at the path of a page.
+enum PagePlace {
+    Nothing,
+    /// The page as it was written last.
+    Own,
+    /// What somebody else put there, and what stays.
+    Foreign,
+}
+
+/// The file of a page, which is written once or again and again.
+#[derive(Drop)]
+struct PageFile<'a> {
+    path: &'a str,
+    /// What was written last.
+    last: Option<Vec<u8>>,
+}
+
+/// Whether a file has these bytes and no others.
+fn has(rt: &HostRuntime, path: &str, bytes: &[u8]) -> io::Result<bool> {
+    let most = (bytes.len() as u64).saturating_add(1);
+    let there = read_up_to(rt.alloc(), File::open(rt, path)?, most)?;
+    Ok(there.as_slice() == bytes)
+}
+
+impl<'a> PageFile<'a> {
+    /// The file of a page that is not written yet, where there is to be one.
+    fn at(path: Option<&'a str>) -> Option<PageFile<'a>> {
+        let path = path?;
+        Some(PageFile { path, last: None })
     }
-    if done.is_err() {
+
+    /// What is at the path now.
+    fn place(&self, rt: &HostRuntime) -> io::Result<PagePlace> {
+        let found = match fs::symlink_metadata(rt, self.path) {
+            Ok(found) => found,
+            Err(error) if error.kind() == ErrorKind::NotFound => return Ok(PagePlace::Nothing),
+            Err(error) => return Err(error),
+        };
+        match &self.last {
+            Some(last) if found.is_file() && has(rt, self.path, last)? => Ok(PagePlace::Own),
+            _ => Ok(PagePlace::Foreign),
+        }
+    }
+
+    /// Gives a page that was written under another name its own. Returns whether it has it.
+    fn publish(&self, rt: &HostRuntime, part: &str) -> io::Result<bool> {
+        match self.place(rt)? {
+            PagePlace::Nothing => publish(rt, part, self.path)?,
+            PagePlace::Own => fs::rename(rt, part, self.path)?,
+            PagePlace::Foreign => return Ok(false),
+        }
+        Ok(true)
+    }
+
+    /// Writes the page under another name, and then gives it its own. Returns whether it has it;
+    /// else nothing of it is left.
+    fn write(&mut self, rt: &HostRuntime, page: Vec<u8>) -> io::Result<bool> {
+        let path = self.path;
+        let part = format!(in rt.alloc(); "{path}.part")?;
+        let part = part.as_str();
+        let done = match write_new(rt, part, &page) {
+            Err(error) if error.kind() == ErrorKind::AlreadyExists => return Err(error),
+            Err(error) => Err(error),
+            Ok(()) => self.publish(rt, part),
+        };
+        if let Ok(true) = &done {
+            self.last = Some(page);
+            return done;
+        }
         // What cannot be removed is told of by the next call.
         let _ = fs::remove_file(rt, part);
+        done
     }
-    done
+
+    /// Writes the page. Returns whether it was written; that it was not is told, and the way out.
+    fn write_or_tell<E: Write>(
+        &mut self,
+        rt: &HostRuntime,
+        page: Vec<u8>,
+        errors: &mut E,
+    ) -> io::Result<bool> {
+        let path = self.path;
+        match self.write(rt, page) {
+            Ok(true) => return Ok(true),
+            Ok(false) => writeln!(errors, "{path}: {FOREIGN}")?,
+            Err(error) if error.kind() == ErrorKind::OutOfMemory => return Err(error),
+            Err(error) => writeln!(errors, "{path}: {error}: {UNWRITTEN}")?,
+        }
+        Ok(false)
+    }
 }
 
 /// Asks for the jobs of each customer once.
@@ -238,31 +330,7 @@ fn ask_all(rt: &HostRuntime, class: Class<'_>, names: &[&str]) -> io::Result<Tab
     Ok(table)
 }
 
-/// Prints a table, or writes its page; and tells of whom there was no answer.
-fn show<W: Write, E: Write>(
-    rt: &HostRuntime,
-    class: Class<'_>,
-    is_new: bool,
-    table: &Table,
-    output: &mut W,
-    errors: &mut E,
-) -> io::Result<Status> {
-    match class.page {
-        Some(path) => write_page(rt, path, is_new, &table.page(rt.alloc(), class)?)?,
-        None => table.print(output)?,
-    }
-    if table.untold == 0 {
-        return Ok(Status::Done);
-    }
-    let (port, untold) = (class.port, table.untold);
-    writeln!(
-        errors,
-        "port {port}: no answer of a bureau for {untold} of the customers; begin bureau serve there"
-    )?;
-    Ok(Status::NotDone)
-}
-
-/// Shows the jobs of customers, once or again and again.
+/// Shows the jobs of customers, once or again and again: prints a table, or writes its page.
 fn show_all<W: Write, E: Write>(
     rt: &HostRuntime,
     class: Class<'_>,
@@ -270,9 +338,19 @@ fn show_all<W: Write, E: Write>(
     output: &mut W,
     errors: &mut E,
 ) -> io::Result<Status> {
-    for round in 0..u64::MAX {
+    let mut file = PageFile::at(class.page);
+    for _round in 0..u64::MAX {
         let table = ask_all(rt, class, names)?;
-        let status = show(rt, class, round == 0, &table, output, errors)?;
+        match &mut file {
+            Some(file) => {
+                let page = table.page(rt.alloc(), class)?;
+                if !file.write_or_tell(rt, page, errors)? {
+                    return Ok(Status::NotDone);
+                }
+            }
+            None => table.print(output)?,
+        }
+        let status = table.tell_untold(class.port, errors)?;
         if !class.watches {
             return Ok(status);
         }
