@@ -29,7 +29,7 @@ kill -9 0
 CALLED = 'awk base32 cat cp cut flock grep head mkdir mv openssl rm sed sort sync touch tr uniq'
 FILES = 'customers.map', 'users.nginx', 'users.haproxy'
 # Those of a class who run a job: with which switches and orders, and how it then stands.
-RUN = (('STUD1', 'two_lines', 'A', 'slice/2000 collect', 'halted next 361 collected'),
+JOBS = (('STUD1', 'two_lines', 'A', 'slice/2000 collect', 'halted next 361 collected'),
        ('STUD19', 'two_lines', '-', 'slice/2000', 'check READER EMPTY at 342'),
        ('STUD20', 'primes', 'A', 'slice/20', 'running'),
        ('STUD21', 'copy_and_count', 'A', 'slice/2000', 'halted next 378'),
@@ -505,18 +505,21 @@ class Tables:
 
     def told_of_job(self, name):
         """The cells of a pupil's job, by what he is told of it."""
-        return cells_of_job(name, 2, json.loads(self.ask(name, 'GET', f'/c/{name}/j/2')[1]))
+        status, told = self.ask(name, 'GET', f'/c/{name}/j/2')
+        if status != 200:
+            return [name, f'status {status}']
+        return cells_of_job(name, 2, json.loads(told))
 
     def run_class(self):
         """Some of the class run a job. Returns its cells for each of them."""
-        for name, text, switches, orders, _ in RUN:
+        for name, text, switches, orders, _ in JOBS:
             job = f'/c/{name}/j/2'
             self.ask(name, 'PUT', f'{job}/object/4000/{switches}', example(f'{text}.deck'))
             for order in orders.split():
                 self.ask(name, 'POST', f'{job}/{order}')
-        told = {name: self.told_of_job(name) for name, *_ in RUN}
-        self.is_so('some of them run a job, and are told how it stands', [it[-1] for it in RUN],
-                   [told[it[0]][-1] for it in RUN])
+        told = {name: self.told_of_job(name) for name, *_ in JOBS}
+        self.is_so('some of them run a job, and are told how it stands', [it[-1] for it in JOBS],
+                   [told[it[0]][-1] for it in JOBS])
         return told
 
     def show_tables(self, pupils, names):
