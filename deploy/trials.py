@@ -1,5 +1,5 @@
-"""What deploy/try shows of the certificate, of `customer`, of `job` and of `read-log`, and what it
-asks bureaus and proxies with."""
+"""What deploy/try shows of the certificate, of `customer`, of `operator class`, of `job` and of
+`read-log`, and what it asks bureaus and proxies with."""
 import collections
 import glob
 import http.client
@@ -28,6 +28,12 @@ kill -9 0
 """
 CALLED = 'awk base32 cat cp cut flock grep head mkdir mv openssl rm sed sort sync touch tr uniq'
 FILES = 'customers.map', 'users.nginx', 'users.haproxy'
+# Those of a class who run a job: with which switches and orders, and how it then stands.
+JOBS = (('STUD1', 'two_lines', 'A', 'slice/2000 collect', 'halted next 361 collected'),
+       ('STUD19', 'two_lines', '-', 'slice/2000', 'check READER EMPTY at 342'),
+       ('STUD20', 'primes', 'A', 'slice/20', 'running'),
+       ('STUD21', 'copy_and_count', 'A', 'slice/2000', 'halted next 378'),
+       ('STUD30', 'two_lines', 'A', 'slice/20 hold', 'running held'))
 
 
 def free_ports(count):
@@ -80,6 +86,24 @@ def blocks_of_page(heading):
     text = read(f'{HERE}/README.md').decode('utf-8')
     part = re.split(r'\n##+ ', text.split(f'# {heading}\n')[1])[0]
     return [re.sub('^    ', '', it, flags=re.M) for it in re.findall(r'(?:^    .*\n)+', part, re.M)]
+
+
+def cells_of_job(customer, number, told):
+    """The cells of the row that `operator class` has of a job, by what its customer was told."""
+    flags = [it for it in ('held', 'collected') if told[it]]
+    return [customer, *(str(it) for it in (number, told['granted'], told['cards'], told['lines'])),
+            ' '.join([told['standing'], *flags])]
+
+
+def cells_of_class(told):
+    """The cells of each row that `operator class` printed, and of its sum."""
+    return [re.split(' {2,}', it) for it in told.splitlines()[1:]]
+
+
+def cells_of_page(page):
+    """The same of a page, which has the standing behind the number; without the sum."""
+    rows = [re.findall('>([^<]+)</td>', it) for it in page.splitlines() if '<td' in it]
+    return [[*it[:2], *it[3:], *it[2:3]] for it in rows]
 
 
 def on_sheet(path):
@@ -420,6 +444,7 @@ class Passwords:
         self.words.update(found)
         self.reload()
         self.becomes(200, 'STUD30', 'GET', '/c/STUD30/jobs')
+        self.show_tables(pupils, names)
         self.is_so('each of them hands in, and has his job in the bureau of his line',
                    {it: (200, 200) for it in pupils}, {it: self.handed_in(it) for it in pupils})
         files = [it for it in glob.glob(f'{self.room}/*') + glob.glob(f'{self.room}/.*')
@@ -467,6 +492,57 @@ class Passwords:
         self.is_so('in the end all of them are taken away', (401, 200),
                    (self.becomes(401, *page, word=word),
                     self.status('ACME', 'GET', '/c/ACME/jobs')))
+
+
+class Tables:
+    """What is shown of `operator class`."""
+
+    def class_told(self, bureau, *words):
+        """A call of it: its status, the cells of what it printed, and what it told."""
+        call = [f'{self.room}/bin/operator', 'class', str(self.port[bureau]), *words]
+        made = subprocess.run(call, capture_output=True, text=True, check=False)
+        return made.returncode, cells_of_class(made.stdout), made.stderr
+
+    def told_of_job(self, name):
+        """The cells of a pupil's job, by what he is told of it."""
+        status, told = self.ask(name, 'GET', f'/c/{name}/j/2')
+        if status != 200:
+            return [name, f'status {status}']
+        return cells_of_job(name, 2, json.loads(told))
+
+    def run_class(self):
+        """Some of the class run a job. Returns its cells for each of them."""
+        for name, text, switches, orders, _ in JOBS:
+            job = f'/c/{name}/j/2'
+            self.ask(name, 'PUT', f'{job}/object/4000/{switches}', example(f'{text}.deck'))
+            for order in orders.split():
+                self.ask(name, 'POST', f'{job}/{order}')
+        told = {name: self.told_of_job(name) for name, *_ in JOBS}
+        self.is_so('some of them run a job, and are told how it stands', [it[-1] for it in JOBS],
+                   [told[it[0]][-1] for it in JOBS])
+        return told
+
+    def show_tables(self, pupils, names):
+        told = self.run_class()
+        tables = {}
+        for bureau in (8101, 8103):
+            has = {it: cells for it, cells in told.items() if self.lines[it] == bureau}
+            tables[bureau] = [has.get(it, [it, 'no job']) for it in pupils]
+            running = sum(cells[-1].startswith('running') for cells in has.values())
+            total = [f'customers 30, jobs {len(has)}, {running} running']
+            self.is_so(f'`operator class` of {bureau} has each job as its pupil was told',
+                       (0, [*tables[bureau], total], ''), self.class_told(bureau, names))
+        page = f'{self.room}/class.html'
+        found, text = self.class_told(8101, names, page), read(page).decode('ascii')
+        self.is_so('and so has its page, which is whole',
+                   ((0, [], ''), tables[8101], True, [page]),
+                   (found, cells_of_page(text), text.endswith('</html>\n'), glob.glob(f'{page}*')))
+        self.ask('STUD20', 'POST', '/c/STUD20/j/2/slice/20')
+        has_gone_on = self.told_of_job('STUD20') != told['STUD20']
+        found = self.class_told(8101, names, page)
+        self.is_so('a page that is there stays as it was, though a job has gone on',
+                   ((1, [], f'{page}: it is there; give the page another name\n'), text, True),
+                   (found, read(page).decode('ascii'), has_gone_on))
 
 
 class Clients:
