@@ -1,0 +1,2 @@
+mod SignTables
+mod SignLemmas
