@@ -1,14 +1,19 @@
 -- the text of a film
-use Rattle.std.specs.Prelude.{ℕ, zero, suc, ◌≡◌, ◌+◌, ◌-◌, ◌<◌, ◌≤◌, ¬◌, min, if◌then◌else◌, List, [], ◌∷◌, ◌++◌, length, codes, decimal, slice_get, Option, Some, None}
+use Rattle.std.specs.Prelude.{ℕ, zero, suc, ◌≡◌, ◌+◌, ◌-◌, ◌≤◌, min, if◌then◌else◌, List, [], ◌∷◌, ◌++◌, length, codes, decimal, slice_get, Option, Some, None}
 use Rattle.cards.specs.Files.{line_feed}
 use Rattle.cards.specs.declared.decks.Card.{Card}
 use Rattle.autocoder.specs.Listing.{fills}
 use Rattle.autocoder_layout.specs.declared.slots.Slot.{Slot}
-use Rattle.machine.specs.Run.{State, after, attempts, most_instructions}
+use Rattle.check_causes.specs.Causes.{cause}
+use Rattle.check_causes.specs.declared.causes.Cause.{Cause}
+use Rattle.machine.specs.Reports.{report_of}
+use Rattle.machine.specs.Run.{State, after, attempts, is_checked, most_instructions}
+use Rattle.machine.specs.Standings.{standing_of}
 use Rattle.run_traces.specs.Names.{Named}
-use Rattle.films.specs.Frames.{cards_before, lines_before}
 use Rattle.films.specs.Signs.{signs_on}
-use Rattle.films.specs.Texts.{first_line, step_line}
+use Rattle.films.specs.Steps.{IsHindered, change_lines, most_bytes}
+use Rattle.films.specs.declared.films.Film.{Film}
+use Rattle.films.specs.declared.films.FilmError.{FilmError}
 use Rattle.films.specs.declared.films.FilmOptions.{FilmOptions}
 use Rattle.films.specs.declared.signs.Surface.TheVariants.{OnCard}
 
@@ -50,31 +55,23 @@ deck_lines deck first zero = []
 deck_lines deck first (suc count) = deck_lines deck first count
     ++ deck_line (first + count) (slice_get deck (first + count - 1))
 
--- the lines of the cards of a deck that are in the reader in a film: from the one that is read last
--- when it begins to the one behind that which is read last when it ends
-abbrev pub reader_lines : State → State → List ℕ
-reader_lines m end = deck_lines m.works.units.hopper.deck m.works.units.hopper.taken
-    (end.works.units.hopper.taken + 2 - m.works.units.hopper.taken)
+-- the lines of the cards of a deck that a film shows: from the one with this number, which is read
+-- last when it begins, to the one behind that which is read last when it ends
+abbrev pub reader_lines : ℕ → State → List ℕ
+reader_lines taken end = deck_lines end.works.units.hopper.deck taken
+    (end.works.units.hopper.taken + 2 - taken)
 
--- ---- the changes
-
--- the lines of so many steps that a machine makes
-unfoldable pub step_lines : ℕ → ℕ → State → ℕ → List ℕ
-step_lines lines cards m zero = []
-step_lines lines cards m (suc count) =
-    step_lines lines cards m count ++ step_line lines cards (after m count)
-
--- the lines of the changes of a film: the first frame of a machine, which has the lines on the form
--- of its carriage and the card punched last, and so many steps
-unfoldable pub change_lines : State → ℕ → List ℕ
-change_lines m steps = first_line (lines_before m) (cards_before m) m
-    ++ step_lines (lines_before m) (cards_before m) m steps
+-- the lines before the changes, of a machine at the end of a film that began after so many
+-- instructions, when so many cards had been read, by the names of a source
+abbrev pub text_before : Option Named → ℕ → ℕ → State → List ℕ
+text_before names made taken end = size_lines (length end.works.storage) made
+    ++ named_lines names ++ reader_lines taken end
 
 -- the text of a film of so many steps of a machine, which had made so many before, by the names of a
 -- source
 unfoldable pub film_text : Option Named → ℕ → State → ℕ → List ℕ
-film_text names made m steps = size_lines (length m.works.storage) made ++ named_lines names
-    ++ reader_lines m (after m steps) ++ change_lines m steps
+film_text names made m steps =
+    text_before names made m.works.units.hopper.taken (after m steps) ++ change_lines m steps
 
 -- ---- which steps a film has
 
@@ -86,23 +83,35 @@ passed_over options = min (options.from - 1) most_instructions
 abbrev pub begun : FilmOptions → State → State
 begun options m = after m (passed_over options)
 
--- the steps of a film: as many as are asked for, of a whole run, but none behind the first halt or
--- check
+-- how many steps a film has at most: no more than a whole run
+abbrev pub most_steps : FilmOptions → ℕ
+most_steps options = min options.count (most_instructions - passed_over options)
+
+-- how many steps a film has: as many as are asked for, but none behind the first halt or check
 abbrev pub steps_of : FilmOptions → State → ℕ
-steps_of options m =
-    attempts (begun options m) (min options.count (most_instructions - passed_over options))
+steps_of options m = attempts (begun options m) (most_steps options)
 
--- the most bytes that the changes of a film have
-abbrev pub most_bytes : ℕ
-most_bytes = 4000000
+-- the machine at the end of a film
+abbrev pub ended : FilmOptions → State → State
+ended options m = after (begun options m) (steps_of options m)
 
--- the changes of a film of so many steps are short enough
-abbrev pub Fits : State → ℕ → Type 0
-Fits m steps = length (change_lines m steps) ≤ most_bytes
+-- the cause of the check that a machine is at, if it is at one
+abbrev pub end_cause : State → Option Cause
+end_cause m = if is_checked m.standing then cause m.works else None
 
--- this is the greatest number of steps of which the changes are short enough, where those of as
--- many as are asked for are too long; it is 0 also where those of no step are short enough
-pub record IsMost (m : State) (asked most : ℕ) : Type 0 where
-  pub too_long : ¬ Fits m asked
-  pub fits : 0 < most → Fits m most
-  pub greatest : (other : ℕ) → Fits m other → other ≤ most
+-- this is the film of a machine's run, by the names of a source
+pub record IsFilm (names : Option Named) (options : FilmOptions) (m : State) (film : Film) : Type 0
+  where
+  pub text : film.text.items
+      ≡ film_text names (attempts m (passed_over options)) (begun options m) (steps_of options m)
+  pub short : length (change_lines (begun options m) (steps_of options m)) ≤ most_bytes
+  pub made : film.made ≡ attempts m (passed_over options)
+  pub steps : film.steps ≡ steps_of options m
+  pub standing : film.standing ≡ standing_of (ended options m)
+  pub cause : film.cause ≡ end_cause (ended options m)
+  pub instructions : film.instructions ≡ attempts m most_instructions
+  pub report : film.report ≡ report_of (after m most_instructions)
+
+-- why there is no film of a machine's run
+abbrev pub IsHinderedAt : FilmOptions → State → FilmError → Type 0
+IsHinderedAt options m error = IsHindered (begun options m) (steps_of options m) error

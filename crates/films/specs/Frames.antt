@@ -1,6 +1,5 @@
 -- the frames of a film: what a film knows of a machine
-use Rattle.std.specs.Prelude.{ℕ, ◌≡◌, ◌-◌, ◌==◌, Bool, not, if◌then◌else◌, List, [], ◌∷◌, length, map, take, drop, replicate, Option, Some, None}
-use Rattle.std.specs.List.{prefix_len}
+use Rattle.std.specs.Prelude.{ℕ, ◌≡◌, ◌-◌, ◌==◌, Bool, if◌then◌else◌, List, [], ◌∷◌, length, map, take, drop, replicate, position, Option, Some, None, unwrap_or}
 use Rattle.core_store.specs.Storage.{Storage, blank_storage}
 use Rattle.core_store.specs.declared.checks.Check.{Check}
 use Rattle.core_store.specs.declared.checks.Check.TheVariants.{Address, Instruction, Data, Overlap, ReaderEmpty, PunchFull, PrinterFull}
@@ -16,6 +15,7 @@ use Rattle.machine.specs.Run.{State, lines_of}
 use Rattle.machine.specs.declared.standings.Standing.{Standing}
 use Rattle.machine.specs.declared.standings.Standing.TheVariants.{Running, Halted, Checked}
 use Rattle.films.specs.Signs.{signs_on}
+use Rattle.films.specs.declared.items.Shown.{Shown}
 use Rattle.films.specs.declared.signs.Surface.TheVariants.{OnCard, OnPaper}
 
 -- a printed line as a film shows it: its form and line, and the signs of its characters
@@ -109,6 +109,14 @@ frame_of first_line first_card m = record {
   punched = map card_shown (drop first_card (cards_of m));
 }
 
+-- all numbers, lines and cards of a machine, as shown
+abbrev pub shown_of : State → Shown
+shown_of m = record {
+  numbers = numbers_of m;
+  lines = length (lines_of m);
+  cards = length (cards_of m);
+}
+
 -- the frame before a film: blank storage of so many positions, each number 0, no lines and no cards
 abbrev pub nothing : ℕ → Frame
 nothing size = record {
@@ -118,9 +126,14 @@ nothing size = record {
   punched = [];
 }
 
--- how many lines a machine has printed on the forms before the one on which its carriage is
+-- the form on which a machine's carriage is
+abbrev pub form_of : State → ℕ
+form_of m = m.works.units.printer.carriage.form
+
+-- how many lines a machine has printed before the first one on the form of its carriage
 unfoldable pub lines_before : State → ℕ
-lines_before m = prefix_len (λ l. not (l.form == m.works.units.printer.carriage.form)) (lines_of m)
+lines_before m =
+    unwrap_or (position (λ l. l.form == form_of m) (lines_of m)) (length (lines_of m))
 
 -- how many cards a machine has punched before the last one
 unfoldable pub cards_before : State → ℕ

@@ -3,5 +3,7 @@ pub mod Frames
 pub mod Changes
 pub mod Worked
 pub mod Texts
+pub mod Steps
 pub mod Reading
 pub mod Films
+pub mod Pages

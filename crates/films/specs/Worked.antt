@@ -5,6 +5,7 @@ use Rattle.core_store.specs.declared.registers.Registers.{Registers}
 use Rattle.machine.specs.Run.{State, is_checked, step}
 use Rattle.machine.specs.Word.{word_length}
 use Rattle.check_causes.specs.Worked.{fields_worked}
+use Rattle.films.specs.declared.filming.Place.{Place}
 
 -- the positions from the first to the last, under a letter
 abbrev pub span : List ℕ → ℕ → ℕ → List ℕ
@@ -41,3 +42,11 @@ fields_spans (Some fields) m = if is_checked m.standing then address_spans field
 unfoldable pub worked : State → List (List ℕ)
 worked m = instruction_span m.works.registers.i (word_length m.works.storage m.works.registers.i)
     ++ fields_spans (fields_worked m.works) (step m)
+
+-- where the instruction that a machine attempts next stands and works
+abbrev pub place_of : State → Place
+place_of m = record {
+  i = m.works.registers.i;
+  count = word_length m.works.storage m.works.registers.i;
+  fields = fields_worked m.works;
+}

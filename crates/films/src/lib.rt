@@ -12,5 +12,19 @@
 //! step ([`film_is_read`]).
 #![tactic(auto)]
 
+mod bodies;
+mod filming;
 mod films;
+mod items;
+mod laws;
+mod numbers;
+mod pages;
+mod readers;
+mod scripts;
 mod signs;
+mod spans;
+mod styles;
+
+pub use films::{Film, FilmError, FilmOptions, instructions_of};
+pub use laws::changes_are_played;
+pub use pages::{Subject, film_page};
