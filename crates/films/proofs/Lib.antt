@@ -1,0 +1,5 @@
+mod SignTables
+mod SignLemmas
+mod ChangeLaw
+mod ItemLemmas
+mod SourceLemmas

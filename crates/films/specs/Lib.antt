@@ -1,0 +1,9 @@
+pub mod Signs
+pub mod Frames
+pub mod Changes
+pub mod Worked
+pub mod Texts
+pub mod Steps
+pub mod Reading
+pub mod Films
+pub mod Pages
