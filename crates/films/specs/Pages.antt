@@ -9,6 +9,7 @@ use Rattle.texts.specs.Switches as switches
 use Rattle.run_traces.specs.Causes.{cause_shown}
 use Rattle.pictures.specs.Decks.{stock_definition}
 use Rattle.pictures.specs.Escapes.{escaped}
+use Rattle.pictures.specs.Heads.{page_head, page_heading}
 use Rattle.pictures.specs.declared.styles.TheConstants.{CARD_STYLE}
 use Rattle.films.specs.declared.bodies.TheConstants.{FILM_BODY}
 use Rattle.films.specs.declared.films.Film.{Film}
@@ -17,10 +18,8 @@ use Rattle.films.specs.declared.scripts.TheConstants.{FILM_SCRIPT}
 use Rattle.films.specs.declared.styles.TheConstants.{FILM_STYLE}
 
 -- the head of the page, with its title
-abbrev pub page_head : List ℕ → List ℕ
-page_head title = codes "<!DOCTYPE html><html lang=en><meta charset=utf-8>"
-    ++ codes "<meta name=viewport content=\"width=device-width,initial-scale=1\"><title>"
-    ++ escaped title ++ codes "</title><style>" ++ FILM_STYLE.now ++ CARD_STYLE.now
+abbrev pub film_head : List ℕ → List ℕ
+film_head title = page_head title ++ codes "<style>" ++ FILM_STYLE.now ++ CARD_STYLE.now
     ++ codes "</style><noscript><style>#film{display:block!important}#keys,main{display:none}"
     ++ codes "</style></noscript>\n"
 
@@ -45,7 +44,7 @@ end_fact film = escaped (standing_words film.standing ++ cause_shown film.cause)
 
 -- the header of the page
 abbrev pub page_header : Subject → Film → List ℕ
-page_header subject film = codes "<header><h1>" ++ escaped subject.title.now ++ codes "</h1><p>"
+page_header subject film = codes "<header>" ++ page_heading subject.title.now ++ codes "<p>"
     ++ machine_fact subject.deck.now subject.size subject.switches
     ++ steps_fact film.made film.steps ++ run_fact film ++ codes "</p><p id=ended hidden>"
     ++ end_fact film ++ codes "</p></header>\n"
@@ -57,5 +56,5 @@ film_part text = codes "<pre id=film hidden>\n" ++ text ++ codes "</pre>\n<scrip
 
 -- the page of a film
 unfoldable pub page_of : Subject → Film → List ℕ
-page_of subject film = page_head subject.title.now ++ page_header subject film ++ FILM_BODY.now
+page_of subject film = film_head subject.title.now ++ page_header subject film ++ FILM_BODY.now
     ++ stock_definition ++ film_part film.text.items

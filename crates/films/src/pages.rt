@@ -3,7 +3,7 @@
 ghost use Rattle.std.specs.Prelude.{◌≡◌, ◌++◌, IfOk, OnOk};
 ghost use Rattle.run_traces.specs.Causes.{cause_shown};
 ghost use Rattle.machine.specs.Standings.{standing_words};
-ghost use Rattle.films.specs.Pages.{end_fact, film_part, machine_fact, page_head, page_header, page_of, run_fact, steps_fact};
+ghost use Rattle.films.specs.Pages.{end_fact, film_head, film_part, machine_fact, page_header, page_of, run_fact, steps_fact};
 
 use crate::bodies::FILM_BODY;
 use crate::films::Film;
@@ -12,7 +12,9 @@ use crate::styles::FILM_STYLE;
 use check_causes::Cause;
 use core_store::Size;
 use machine::StandingAt;
-use pictures::{CARD_STYLE, push_escaped, push_stock_definition};
+use pictures::{
+    CARD_STYLE, push_escaped, push_page_head, push_page_heading, push_stock_definition,
+};
 use std::alloc::{AllocError, Global};
 use texts::{push_decimal, push_number_between, push_switches};
 use units::Switches;
@@ -30,21 +32,16 @@ pub struct Subject<'a> {
     pub switches: Switches,
 }
 
-/// What stands before the title of a page.
-const OPENING: &[u8] = b"<!DOCTYPE html><html lang=en><meta charset=utf-8>\
-    <meta name=viewport content=\"width=device-width,initial-scale=1\"><title>";
-
 /// What stands behind the style of a page.
 const NO_SCRIPT: &[u8] = b"</style><noscript><style>#film{display:block!important}\
     #keys,main{display:none}</style></noscript>\n";
 
 /// Adds the head of the page.
 fn push_head(out: &mut Vec<u8>, title: &[u8]) -> Result<(), AllocError>
-    ensures { OnOk result (out.new.items ≡ out.old.items ++ page_head title.now) }
+    ensures { OnOk result (out.new.items ≡ out.old.items ++ film_head title.now) }
 {
-    out.extend_from_slice(OPENING)?;
-    push_escaped(out, title)?;
-    out.extend_from_slice(b"</title><style>")?;
+    push_page_head(out, title)?;
+    out.extend_from_slice(b"<style>")?;
     out.extend_from_slice(FILM_STYLE)?;
     out.extend_from_slice(CARD_STYLE)?;
     out.extend_from_slice(NO_SCRIPT)
@@ -115,9 +112,9 @@ fn push_header(
 ) -> Result<(), AllocError>
     ensures { OnOk result (out.new.items ≡ out.old.items ++ page_header subject.now film.now) }
 {
-    out.extend_from_slice(b"<header><h1>")?;
-    push_escaped(out, subject.title)?;
-    out.extend_from_slice(b"</h1><p>")?;
+    out.extend_from_slice(b"<header>")?;
+    push_page_heading(out, subject.title)?;
+    out.extend_from_slice(b"<p>")?;
     push_machine(out, subject)?;
     push_steps(out, film.made, film.steps)?;
     push_run(alloc, out, film)?;

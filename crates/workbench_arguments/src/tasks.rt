@@ -13,7 +13,7 @@ ghost use Rattle.workbench_arguments.specs.{
   Values.{IsNumeral},
 };
 
-use crate::bench_tasks::{console_task, dump_task, profile_task, trace_task};
+use crate::bench_tasks::{console_task, dump_task, film_task, profile_task, trace_task};
 use crate::complaints::{
     NO_COLUMN, NO_EMPTY_LINE, NO_FIRST_NUMBER, NO_FORM, NO_FORM_READ, NO_FORM_WRITTEN,
     NO_LAST_NUMBER, NO_SIGNS, NO_STEP, NO_TABS, NO_WIDTH,
@@ -128,6 +128,25 @@ pub struct Tracing<'a> {
     pub names: Option<&'a str>,
     /// Whether the fields are printed that an instruction works at.
     pub fields: bool,
+}
+
+/// Which instructions of a run a film shows, and how.
+#[derive(Clone, Copy)]
+pub struct Filming<'a> {
+    /// What the machine begins with.
+    pub setup: Setup<'a>,
+    /// The path of the page.
+    pub out: &'a str,
+    /// The path of the source that has the names.
+    pub names: Option<&'a str>,
+    /// The number of the first instruction that is shown.
+    pub from: u32,
+    /// How many instructions before the end of the run it begins, in place of `from`, if it is given.
+    pub last: Option<u32>,
+    /// How many are shown.
+    pub count: u32,
+    /// The title of the page, if it is given.
+    pub title: Option<&'a str>,
 }
 
 /// When a machine is shown, and how much of its storage.
@@ -257,6 +276,8 @@ pub enum Task<'a> {
         /// The title of the page, if it is given.
         title: Option<&'a str>,
     },
+    /// Show a run step by step on a page.
+    Film(Filming<'a>),
 }
 
 /// The columns of `--tabs`; none where it is not given.
@@ -522,6 +543,7 @@ fn subcommand_task<'a>(
         Subcommand::Deck => deck_task(found),
         Subcommand::Pages => pages_task(found),
         Subcommand::Page => page_task(found),
+        Subcommand::Film => film_task(found),
     }
 }
 
