@@ -6,15 +6,24 @@
 //! are given (`specs/Texts.antt`).
 #![tactic(auto)]
 
+mod comparing;
+mod flows;
+mod labels;
+mod laws;
 mod mnemonics;
 mod names;
 mod operands;
 mod parts;
+mod pieces;
 mod shown;
+mod sources;
 mod statements;
 mod stored;
+mod writing;
 
+pub use laws::code_loads;
 pub use operands::push_operands;
 pub use shown::push_statement;
+pub use sources::{Code, CodeOptions, code_of};
 pub use statements::{Statement, statement_of};
 pub use stored::statement_at;

@@ -15,7 +15,7 @@ use bcd::{Code, Zone};
 use std::alloc::AllocError;
 
 /// The character of a glyph.
-fn code_of(glyph: u8) -> Code
+pub(crate) fn code_of(glyph: u8) -> Code
     ensures { result ≡ code_of glyph }
 {
     match Code::from_glyph(glyph) {
@@ -25,7 +25,7 @@ fn code_of(glyph: u8) -> Code
 }
 
 /// The digit of a number at the place of this unit.
-fn digit(number: u16, unit: u16) -> Code
+pub(crate) fn digit(number: u16, unit: u16) -> Code
     requires { 0 < unit }
     ensures { result ≡ digit_under Bare (number / unit % 10) }
 {
@@ -62,7 +62,7 @@ fn push_five(text: &mut Vec<Code>, number: u16) -> Result<(), AllocError>
 }
 
 /// Adds a number in at least three digits.
-fn push_number(text: &mut Vec<Code>, number: u16) -> Result<(), AllocError>
+pub(crate) fn push_number(text: &mut Vec<Code>, number: u16) -> Result<(), AllocError>
     ensures { OnOk result (text.new.items ≡ text.old.items ++ number_text number) }
 {
     if number < 1000 {
@@ -105,7 +105,11 @@ fn push_indexed(text: &mut Vec<Code>, number: u16, digit: u8) -> Result<(), Allo
 
 /// Adds an address, by a name of these cards that is just there if it has no index location.
 #[tactic(auto, unfolding(crate::specs::Texts::address_text))]
-fn push_address(text: &mut Vec<Code>, slots: &[Slot], address: &Tagged) -> Result<(), AllocError>
+pub(crate) fn push_address(
+    text: &mut Vec<Code>,
+    slots: &[Slot],
+    address: &Tagged,
+) -> Result<(), AllocError>
     ensures { OnOk result (text.new.items ≡ text.old.items ++ address_text slots.now address.now) }
 {
     let number = address.base;
@@ -144,7 +148,7 @@ fn push_last(text: &mut Vec<Code>, last: Option<Code>) -> Result<(), AllocError>
 }
 
 /// Adds a last character behind a comma, if there is one.
-fn push_next_last(text: &mut Vec<Code>, last: Option<Code>) -> Result<(), AllocError>
+pub(crate) fn push_next_last(text: &mut Vec<Code>, last: Option<Code>) -> Result<(), AllocError>
     ensures { OnOk result (text.new.items ≡ text.old.items ++ next_last last) }
 {
     let Some(code) = last else {

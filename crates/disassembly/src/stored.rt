@@ -27,7 +27,7 @@ fn word_length<C: Core>(core: &C, i: u16) -> Option<u16>
 }
 
 /// The characters from a position on, blanks behind them.
-fn codes_from<C: Core>(core: &C, first: u16, count: u16) -> [Code; LONGEST]
+pub(crate) fn codes_from<C: Core>(core: &C, first: u16, count: u16) -> [Code; LONGEST]
     requires most { count ≤ 8 }
     requires inside { first + count ≤ length (C.cells core.now) }
     ensures { take count result ≡ codes_from (C.cells core.now) first count }
