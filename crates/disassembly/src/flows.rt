@@ -1,4 +1,4 @@
-//! Where control comes to: the words that are instructions.
+//! Where control comes to: the words of a storage that are instructions.
 
 ghost use Rattle.std.specs.Prelude.{◌≡◌, ◌<◌, ◌≤◌, length, IfSome};
 
@@ -60,7 +60,8 @@ fn is_below(address: &Option<Tagged>, size: u16) -> bool {
 /// The instruction at a position: its word ends before a mark, has a statement, and its addresses
 /// are in the storage.
 pub(crate) fn instruction_at<C: Core>(core: &C, position: u16) -> Option<Instruction>
-    ensures { IfSome result (λ found. (position < found.end) × (found.end < length (C.cells core.now))) }
+    ensures { IfSome result (λ found. (position < found.end)
+        × (found.end < length (C.cells core.now))) }
 {
     if position < FIRST_FREE || position >= core.size() {
         return None;

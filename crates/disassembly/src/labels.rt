@@ -137,8 +137,8 @@ impl<'a> Labels<'a> {
         }
     }
 
-    /// The name of the card with a label at a position: that of the source whose names are taken, or
-    /// one that is made, unless that source calls something else so.
+    /// The name of the card with a label at a position: that of the source whose names are taken,
+    /// or one that is made, unless that source calls something else so.
     fn name_of_label(&self, label: u16) -> Option<Name> {
         if let Some(name) = name_at(self.slots, label) {
             return Some(name);

@@ -21,6 +21,7 @@ pub struct CodeOptions<'a> {
     /// The position at which the program starts.
     pub start: u16,
     /// Positions at which instructions are known to begin, besides those that control can come to.
+    /// One below 081 gets a comment, since no card can place it.
     pub begun: &'a [u16],
     /// What the cards of a source define whose names are taken.
     pub names: &'a [Slot],
@@ -79,7 +80,7 @@ fn written<C: Core>(
         core,
         labels: &labels,
     };
-    let mut deck = writer.source(options.names, pieces, options.start)?;
+    let mut deck = writer.source(pieces, options)?;
     deck.push_all(data)?;
     Ok(deck)
 }

@@ -1,10 +1,12 @@
 //! The cards of a source that is made of a storage.
 
-use crate::flows::instruction_at;
+use crate::flows::{FIRST_FREE, instruction_at};
 use crate::labels::Labels;
-use crate::operands::{code_of, digit, push_address, push_next_last, push_number};
+use crate::operands::{code_of, digit, push_address, push_next_last, push_number, push_operands};
 use crate::pieces::{Kind, Piece};
+use crate::sources::CodeOptions;
 use crate::statements::Statement;
+use crate::stored::statement_at;
 use addresses::Tagged;
 use autocoder_layout::{Definition, Slot};
 use autocoder_statements::Name;
@@ -193,6 +195,32 @@ impl<C: Core> Writer<'_, C> {
         comment_of(self.alloc, &text)
     }
 
+    /// The comment on the instruction at a position that no card can place: its statement, if it
+    /// has one.
+    fn below_card(&self, position: u16) -> Result<Option<Card>, AllocError> {
+        let Some(statement) = statement_at(self.core, position) else {
+            return Ok(None);
+        };
+        let mut text = Vec::new(self.alloc);
+        push_number(&mut text, position)?;
+        text.push(Code::blank())?;
+        text.extend_from_slice(&codes_of(self.alloc, &statement.name)?)?;
+        push_operands(&mut text, &[], &statement)?;
+        Ok(Some(comment_of(self.alloc, &text)?))
+    }
+
+    /// Adds the comments on those of these instructions that no card can place.
+    fn push_below(&self, deck: &mut Deck, begun: &[u16]) -> Result<(), DeckFault> {
+        for position in begun {
+            if *position < FIRST_FREE {
+                if let Some(card) = self.below_card(*position)? {
+                    deck.push(card)?;
+                }
+            }
+        }
+        Ok(())
+    }
+
     /// The card of a piece.
     fn card_of_piece(&self, piece: &Piece) -> Result<Option<Card>, AllocError> {
         match piece.kind {
@@ -203,7 +231,7 @@ impl<C: Core> Writer<'_, C> {
         }
     }
 
-    /// A card without a label whose operand is a position by its number.
+    /// A card whose operand is a position by its number.
     fn card_at(
         &self,
         label: Option<Name>,
@@ -246,17 +274,14 @@ impl<C: Core> Writer<'_, C> {
 
     /// Adds the card of a piece, and where it does not stand behind the one before its place.
     fn push_piece(&self, deck: &mut Deck, place: u16, piece: &Piece) -> Result<u16, DeckFault> {
-        if piece.kind == Kind::AtSign {
-            deck.push(self.at_sign_card(piece.first)?)?;
-            return Ok(place);
-        }
-        if piece.first != place {
+        let is_placed = piece.kind != Kind::AtSign;
+        if is_placed && piece.first != place {
             deck.push(self.card_at(None, b"ORG", piece.first)?)?;
         }
         if let Some(card) = self.card_of_piece(piece)? {
             deck.push(card)?;
         }
-        Ok(piece.end)
+        if is_placed { Ok(piece.end) } else { Ok(place) }
     }
 
     /// Adds the cards of the pieces.
@@ -282,15 +307,15 @@ impl<C: Core> Writer<'_, C> {
     /// The cards of the source.
     pub(crate) fn source(
         &self,
-        slots: &[Slot],
         pieces: &[Piece],
-        start: u16,
+        options: CodeOptions<'_>,
     ) -> Result<Deck, DeckFault> {
         let mut deck = Deck::empty(self.alloc);
         self.push_size(&mut deck)?;
-        self.push_names(&mut deck, slots)?;
+        self.push_below(&mut deck, options.begun)?;
+        self.push_names(&mut deck, options.names)?;
         self.push_pieces(&mut deck, pieces)?;
-        self.push_end(&mut deck, start)?;
+        self.push_end(&mut deck, options.start)?;
         Ok(deck)
     }
 }
