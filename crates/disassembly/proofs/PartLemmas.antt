@@ -1,5 +1,5 @@
 -- for `parts`: addresses, and a character that stands alone in a field
-use Rattle.std.proofs.Common.{◌≡◌, ◌≤◌, ℕ, Bool, true, false, not, List, [], ◌∷◌, length, get_or, Some, None, if◌then◌else◌, refl, sym, arith}
+use Rattle.std.proofs.Common.{◌≡◌, ◌≤◌, ℕ, Bool, true, false, List, [], ◌∷◌, length, get_or, Some, None, if◌then◌else◌, refl, sym, arith}
 use Rattle.std.specs.Str.{bytes_eq}
 use Rattle.bcd.specs.Table.{zone_of}
 use Rattle.addresses.specs.Addresses.{Tagged, tagged, written}

@@ -1,4 +1,4 @@
-use Rattle.std.proofs.Common.{◌≡◌, ap, ◌∙◌}
+use Rattle.std.proofs.Common.{ap, ◌∙◌}
 use Rattle.core_store.specs.Storage.{with_mark}
 use Rattle.disassembly.proofs.CodeLemmas.{cell_set}
 use Rattle.disassembly.proofs.comparing.fill.Goals as goal

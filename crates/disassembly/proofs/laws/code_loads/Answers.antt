@@ -1,4 +1,4 @@
-use Rattle.std.proofs.Common.{◌≡◌, sym, ap, subst, ◌∙◌, arith}
+use Rattle.std.proofs.Common.{sym, ap, subst, ◌∙◌, arith}
 use Rattle.core_store.specs.Storage.{blank_storage}
 use Rattle.autocoder.specs.Programs.{image_for}
 use Rattle.loader.specs.Loading.{filled_with}

@@ -1,4 +1,4 @@
-use Rattle.std.proofs.Common.{◌≡◌, [], ◌∷◌, ap, ap₂, sym, ◌∙◌}
+use Rattle.std.proofs.Common.{[], ◌∷◌, ap, ap₂, sym, ◌∙◌}
 use Rattle.std.specs.Str.{bytes_eq}
 use Rattle.addresses.specs.Addresses.{written}
 use Rattle.disassembly.proofs.PartLemmas.{address_found}
