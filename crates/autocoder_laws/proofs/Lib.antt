@@ -29,3 +29,4 @@ pub mod CardFaults
 pub mod SourceFaults
 pub mod StatementLemmas
 pub mod StatementLaw
+pub mod FoundLaw

@@ -1,5 +1,5 @@
 -- for the law `statements_are_exact`
-use Rattle.std.proofs.Common.{◌≡◌, ℕ, suc, ◌<◌, ◌==◌, ◌⊎◌, inl, inr, Bool, true, false, List, [], ◌∷◌, ◌++◌, length, map, drop, Option, Some, None, if◌then◌else◌, refl, sym, ◌∙◌, ap, ap₂, subst, arith, append-nil, append_assoc}
+use Rattle.std.proofs.Common.{◌≡◌, ℕ, suc, ◌<◌, ◌==◌, ◌⊎◌, inl, inr, Bool, true, false, List, [], ◌∷◌, ◌++◌, map, drop, Option, Some, None, if◌then◌else◌, refl, sym, ◌∙◌, ap, ap₂, subst, arith, append-nil, append_assoc}
 use Rattle.std.specs.Prelude.{option_to_list, option_map, Contains}
 use Rattle.std.specs.List.{fold}
 use Rattle.std.proofs.lemmas.Bool.{eqb-true}
@@ -10,7 +10,6 @@ use Rattle.addresses.specs.Addresses.{Tagged}
 use Rattle.autocoder_statements.specs.Mnemonics.{Row, orders, mnemonics, mnemonic_of, code_of, or_else, instruction_with, IsAmong}
 use Rattle.autocoder_statements.specs.declared.operand_forms.OperandForm.{OperandForm}
 use Rattle.autocoder_statements.specs.declared.operand_forms.OperandForm.TheVariants.{Empty, Modifier, One, OneAndModifier, Two, TwoAndModifier}
-use Rattle.autocoder_statements.specs.declared.operand_forms.OperandForms.{OperandForms}
 use Rattle.autocoder_statements.specs.declared.operands.Operands.{Operands}
 use Rattle.autocoder_statements.specs.declared.operations.Operation.TheVariants as operation
 use Rattle.autocoder_statements.proofs.Found.{mapped, some_if}
@@ -21,14 +20,14 @@ use Rattle.autocoder_layout.specs.declared.slots.Slot.{Slot}
 use Rattle.disassembly.specs.Statements.{address, last, is_own_last, said, said_before, in_form, in_form_if, in_forms, of_row, of_rows, statement_of}
 use Rattle.disassembly.specs.Texts.{address_text, behind_comma, operand_text}
 use Rattle.disassembly.specs.declared.statements.Statement.{Statement}
-use Rattle.autocoder_laws.specs.Texts.{characters, Joined}
+use Rattle.autocoder_laws.specs.Texts.{characters}
 use Rattle.autocoder_laws.specs.Cards.{operations}
 use Rattle.autocoder_laws.specs.OperandFields.{IsOperand, AreOperands, operands_with}
 use Rattle.autocoder_laws.specs.Disassembly.{IsMadeOf}
 use Rattle.autocoder_laws.proofs.CardTexts.{instruction_read}
 use Rattle.autocoder_laws.proofs.Fronts.{bound}
 use Rattle.autocoder_laws.proofs.Operations.{operation_read}
-use Rattle.autocoder_laws.proofs.StatementLemmas.{AreSmall, head_small, tail_small, address_back, with_nothing, as_operand, operand_is, comma_is, codes_are, last_back, own_last_back}
+use Rattle.autocoder_laws.proofs.StatementLemmas.{AreSmall, head_small, tail_small, address_back, as_operand, operand_is, comma_is, codes_are, last_back, own_last_back}
 
 -- ---- the row that a statement is of
 

@@ -19,7 +19,8 @@
 //! that the card's operands mean.
 //!
 //! **Back.** By [`statements_are_exact`] the assembler makes of the statement that an instruction's
-//! characters have (`disassembly`) just these characters.
+//! characters have (`disassembly`) just these characters, and what it makes of operands that are
+//! numbers has a statement.
 #![tactic(auto)]
 
 mod constants;
