@@ -5,7 +5,7 @@ ghost use Rattle.core_store.specs.Storage.{blank_storage, cell_at, largest_size,
 ghost use Rattle.loader.specs.Loading.{filled_with};
 ghost use Rattle.disassembly.specs.Sources.{HaveSameCode, IsImageOf};
 
-use crate::flows::FIRST_FREE;
+use crate::positions::FIRST_FREE;
 use autocoder::Program;
 use autocoder_layout::Cell;
 use core_store::{Core, FlagCore, Size};

@@ -1,9 +1,10 @@
 //! The labels of a source that is made of a storage.
 
-use crate::flows::{Positions, instruction_at};
+use crate::instructions::instruction_at;
 use crate::names::{name_at, push_name};
 use crate::operands::{code_of, digit, push_number};
 use crate::pieces::{Kind, Piece};
+use crate::positions::Positions;
 use addresses::Tagged;
 use autocoder_layout::Slot;
 use autocoder_statements::Name;

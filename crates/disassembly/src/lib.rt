@@ -15,7 +15,9 @@
 #![tactic(auto)]
 
 mod comparing;
+mod constants;
 mod flows;
+mod instructions;
 mod labels;
 mod laws;
 mod mnemonics;
@@ -23,6 +25,8 @@ mod names;
 mod operands;
 mod parts;
 mod pieces;
+mod positions;
+mod punching;
 mod shown;
 mod sources;
 mod statements;
