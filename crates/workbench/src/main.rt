@@ -9,6 +9,7 @@
 
 mod benching;
 mod characters;
+mod coding;
 mod converting;
 mod cutting;
 mod decks;
@@ -30,6 +31,7 @@ mod talking;
 mod undone;
 
 use crate::benching::{dump_deck, profile_deck, trace_deck};
+use crate::coding::write_code;
 use crate::converting::convert;
 use crate::cutting::cut_deck;
 use crate::drawing::{draw_card, draw_deck, draw_pages};
@@ -110,6 +112,7 @@ fn work<W: Write, E: Write>(
         } => draw_pages(process, (listing, out), *title),
         Task::Page { setup, out, title } => write_page(process, *setup, out, *title),
         Task::Film(filming) => write_film(process, *filming),
+        Task::Code(coding) => write_code(process, *coding),
     }
 }
 

@@ -139,5 +139,13 @@ workbench = record {
         codes "film DECK SIZE SWITCHES OUT [--names SOURCE] [--from N] [--last N] "
             ++ codes "[--count N] [--title TEXT]",
       )
+      ∷ (
+        name.Code,
+        codes "code",
+        (codes "DECK", Value) ∷ (codes "SIZE", Value) ∷ (codes "OUT", Further)
+            ∷ (codes "names", Setting) ∷ (codes "after", Setting) ∷ (codes "run", Flag)
+            ∷ (codes "numbers", Flag) ∷ [],
+        codes "code DECK SIZE [OUT] [--names SOURCE] [--after N] [--run] [--numbers]",
+      )
       ∷ [];
 }

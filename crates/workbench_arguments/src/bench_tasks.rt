@@ -6,12 +6,12 @@ ghost use Rattle.core_store.specs.Storage.{positions_of};
 ghost use Rattle.texts.specs.Switches.{text_of};
 ghost use Rattle.units.specs.Switches.{AreSeven};
 ghost use Rattle.workbench_arguments.specs.{
-  Tasks.{GivesCount, GivesNumber, HasCount, HasNumber, IsSetup, WantsConsole, WantsDump, WantsFilm, WantsProfile, WantsTrace},
+  Tasks.{GivesCount, GivesNumber, HasCount, HasNumber, IsSetup, WantsCode, WantsConsole, WantsDump, WantsFilm, WantsProfile, WantsTrace},
   Values.{IsCount},
 };
 
 use crate::complaints::{NO_AFTER, NO_COUNT, NO_FIRST, NO_FROM, NO_LAST};
-use crate::tasks::{Dumping, Filming, Setup, Task, Tracing, number};
+use crate::tasks::{Coding, Dumping, Filming, Setup, Task, Tracing, number};
 use crate::values::count_of;
 use command_line::{Found, Mistake, SIZE_COMPLAINT, SWITCHES_COMPLAINT};
 use core_store::Size;
@@ -126,6 +126,21 @@ pub(crate) fn film_task<'a>(found: &Found<'a>) -> Result<Task<'a>, Mistake<'stat
         last: number_in(found, "last", NO_LAST)?,
         count: shown_in(found, 2000)?,
         title: found.value("title"),
+    }))
+}
+
+/// The task of a subcommand `code`.
+pub(crate) fn code_task<'a>(found: &Found<'a>) -> Result<Task<'a>, Mistake<'static>>
+    ensures { IfOk result (WantsCode (given found.now)) }
+{
+    Ok(Task::Code(Coding {
+        deck: found.needed("DECK")?,
+        size: size_in(found)?,
+        out: found.value("OUT"),
+        names: found.value("names"),
+        after: count_in(found, "after", NO_AFTER)?,
+        runs: found.has_flag("run"),
+        numbers: found.has_flag("numbers"),
     }))
 }
 

@@ -31,6 +31,7 @@ usage: workbench SUBCOMMAND ARGUMENTS.. [OPTIONS]
   pages LISTING OUT [--title TEXT]      draws a listing as pages of paper
   page SOURCE SIZE SWITCHES OUT [..]    draws a job: source, run, what came out
   film DECK SIZE SWITCHES OUT [..]      shows a run step by step, on a page
+  code DECK SIZE [OUT] [OPTIONS]        makes a source of what a deck loads
 
   workbench SUBCOMMAND --help           prints the help of one (or -h)
   workbench --help                      prints this text (or -h)
@@ -477,6 +478,32 @@ It needs no other file. Without a script its data is there as text. It ends at
 the first halt or check, and has at most 4,000,000 bytes of changes.
 ";
 
+/// The text that `code --help` prints.
+pub const CODE_HELP: &str = "\
+workbench code DECK SIZE [OUT] [--names SOURCE] [--after N] [--run] [--numbers]:
+makes an Autocoder source of what a deck loads, and prints it with its code.
+
+DECK            a deck text or a punch file
+SIZE            the positions of storage: 1400, 2000, 4000, 8000, 12000 or 16000
+OUT             the source, as a deck text, with the cards behind it that the
+                program has not read
+--names SOURCE  its names are those of another source of the same program
+--after N       the program is loaded after N instructions; without it when
+                control comes past 080 for the first time
+--run           the program is run, and what a run begins is an instruction too
+--numbers       addresses are numbers, and not labels
+
+example:
+  workbench code examples/sales_report.deck 1400 sales.source
+
+What control comes to, by the addresses as they stand, are instructions, and all
+else are constants: where a program changes its addresses, --run finds more.
+Before OUT is written the source is assembled, and must have the character and
+the word mark of each position from 081 on. An at sign that stands in no
+instruction, and what stands below 081, can be placed by no card: then OUT is
+not written, and the status is 1. Addresses within constants stay digits.
+";
+
 /// The text that `--version` prints.
 pub const VERSION: &str = version_of!("workbench");
 
@@ -504,5 +531,6 @@ pub(crate) fn page(subcommand: Option<Subcommand>) -> &'static str
         Some(Subcommand::Pages) => PAGES_HELP,
         Some(Subcommand::Page) => PAGE_HELP,
         Some(Subcommand::Film) => FILM_HELP,
+        Some(Subcommand::Code) => CODE_HELP,
     }
 }

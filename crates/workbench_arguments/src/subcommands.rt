@@ -41,10 +41,12 @@ pub enum Subcommand {
     Page,
     /// `film`.
     Film,
+    /// `code`.
+    Code,
 }
 
 /// The subcommands.
-const SUBCOMMANDS: [Syntax<Subcommand>; 18] = [
+const SUBCOMMANDS: [Syntax<Subcommand>; 19] = [
     Syntax {
         subcommand: Subcommand::Punch,
         name: "punch",
@@ -259,6 +261,20 @@ const SUBCOMMANDS: [Syntax<Subcommand>; 18] = [
         ],
         usage: "film DECK SIZE SWITCHES OUT [--names SOURCE] [--from N] [--last N] \
              [--count N] [--title TEXT]",
+    },
+    Syntax {
+        subcommand: Subcommand::Code,
+        name: "code",
+        arguments: &[
+            ("DECK", Kind::Value),
+            ("SIZE", Kind::Value),
+            ("OUT", Kind::Further),
+            ("names", Kind::Setting),
+            ("after", Kind::Setting),
+            ("run", Kind::Flag),
+            ("numbers", Kind::Flag),
+        ],
+        usage: "code DECK SIZE [OUT] [--names SOURCE] [--after N] [--run] [--numbers]",
     },
 ];
 

@@ -13,7 +13,7 @@ ghost use Rattle.workbench_arguments.specs.{
   Values.{IsNumeral},
 };
 
-use crate::bench_tasks::{console_task, dump_task, film_task, profile_task, trace_task};
+use crate::bench_tasks::{code_task, console_task, dump_task, film_task, profile_task, trace_task};
 use crate::complaints::{
     NO_COLUMN, NO_EMPTY_LINE, NO_FIRST_NUMBER, NO_FORM, NO_FORM_READ, NO_FORM_WRITTEN,
     NO_LAST_NUMBER, NO_SIGNS, NO_STEP, NO_TABS, NO_WIDTH,
@@ -149,6 +149,25 @@ pub struct Filming<'a> {
     pub title: Option<&'a str>,
 }
 
+/// How a source is made of what a deck loads.
+#[derive(Clone, Copy)]
+pub struct Coding<'a> {
+    /// The path of the deck.
+    pub deck: &'a str,
+    /// How many positions of storage the machine has.
+    pub size: Size,
+    /// The path of the source's deck, if it is to be written.
+    pub out: Option<&'a str>,
+    /// The path of a source whose names are taken.
+    pub names: Option<&'a str>,
+    /// How many instructions load the program, if it is not loaded once control comes past 080.
+    pub after: Option<u32>,
+    /// Whether it is run, and what a run begins is an instruction too.
+    pub runs: bool,
+    /// Whether positions are said by their numbers, and not by labels.
+    pub numbers: bool,
+}
+
 /// When a machine is shown, and how much of its storage.
 #[derive(Clone, Copy)]
 pub struct Dumping<'a> {
@@ -278,6 +297,8 @@ pub enum Task<'a> {
     },
     /// Show a run step by step on a page.
     Film(Filming<'a>),
+    /// Make a source of what a deck loads.
+    Code(Coding<'a>),
 }
 
 /// The columns of `--tabs`; none where it is not given.
@@ -544,6 +565,7 @@ fn subcommand_task<'a>(
         Subcommand::Pages => pages_task(found),
         Subcommand::Page => page_task(found),
         Subcommand::Film => film_task(found),
+        Subcommand::Code => code_task(found),
     }
 }
 
