@@ -87,6 +87,10 @@ begun options m = after m (passed_over options)
 abbrev pub most_steps : FilmOptions → ℕ
 most_steps options = min options.count (most_instructions - passed_over options)
 
+-- how many steps come behind those, to the end of a whole run
+abbrev pub rest_of : FilmOptions → ℕ
+rest_of options = most_instructions - passed_over options - most_steps options
+
 -- how many steps a film has: as many as are asked for, but none behind the first halt or check
 abbrev pub steps_of : FilmOptions → State → ℕ
 steps_of options m = attempts (begun options m) (most_steps options)

@@ -21,8 +21,8 @@ abbrev pub page_head : List ℕ → List ℕ
 page_head title = codes "<!DOCTYPE html><html lang=en><meta charset=utf-8>"
     ++ codes "<meta name=viewport content=\"width=device-width,initial-scale=1\"><title>"
     ++ escaped title ++ codes "</title><style>" ++ FILM_STYLE.now ++ CARD_STYLE.now
-    ++ codes "</style><noscript><style>#film{display:block!important}#keys,main{display:none}"
-    ++ codes "</style></noscript>\n"
+    ++ (codes "</style><noscript><style>#film{display:block!important}"
+    ++ codes "#keys,main{display:none}</style></noscript>\n")
 
 -- what was run: the name of the deck, and the machine
 abbrev pub machine_fact : List ℕ → Size → Switches → List ℕ
@@ -56,6 +56,6 @@ film_part text = codes "<pre id=film hidden>\n" ++ text ++ codes "</pre>\n<scrip
     ++ FILM_SCRIPT.now ++ codes "</script></html>\n"
 
 -- the page of a film
-unfoldable pub page_of : Subject → Film → List ℕ
+abbrev pub page_of : Subject → Film → List ℕ
 page_of subject film = page_head subject.title.now ++ page_header subject film ++ FILM_BODY.now
     ++ stock_definition ++ film_part film.text.items

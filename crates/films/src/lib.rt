@@ -26,5 +26,5 @@ mod spans;
 mod styles;
 
 pub use films::{Film, FilmError, FilmOptions, instructions_of};
-pub use laws::changes_are_played;
+pub use laws::{changes_are_played, film_is_read};
 pub use pages::{Subject, film_page};
