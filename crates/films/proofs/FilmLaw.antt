@@ -1,13 +1,15 @@
 -- a film is read as the frames of its machine
-use Rattle.std.proofs.Common.{◌≡◌, ℕ, zero, suc, ◌+◌, ◌-◌, ◌^◌, ◌<◌, ◌≤◌, ◌==◌, Bool, true, false, if◌then◌else◌, List, [], ◌∷◌, ◌++◌, length, length-append, map, take, drop, get_or, replicate, refl, sym, ap, ◌∙◌, arith, append-nil, append_assoc, subst}
+use Rattle.std.proofs.Common.{◌≡◌, ℕ, zero, suc, ◌+◌, ◌-◌, ◌^◌, ◌<◌, ◌≤◌, ◌==◌, Bool, true, false, if◌then◌else◌, List, [], ◌∷◌, ◌++◌, length, length-append, map, take, drop, get_or, refl, sym, ap, ◌∙◌, arith, append-nil, append_assoc, subst}
 use Rattle.std.specs.Prelude.{Option, Some, None}
-use Rattle.std.specs.List.{All, flat_map, fold}
+use Rattle.std.specs.List.{All}
 use Rattle.std.proofs.Math.Decide.{dec_lt}
 use Rattle.std.proofs.lemmas.List.{drop_all, drop-map, drop-take, length-drop, length-map, length-replicate, map-append, take_all, take-append-le, take-map}
 use Rattle.std.proofs.lemmas.List.Elements.{All-get_or}
 use Rattle.std.proofs.lemmas.List.Sums.{fold-append}
 use Rattle.cards.specs.Decks.{largest_deck}
-use Rattle.core_store.specs.Storage.{blank_cell, largest_size}
+use Rattle.core_store.specs.Storage.{blank_cell, largest_size, positions_of}
+use Rattle.core_store.specs.declared.sizes.Size.{Size}
+use Rattle.core_store.specs.declared.sizes.Size.TheVariants.{Positions1400, Positions2000, Positions4000, Positions8000, Positions12000, Positions16000}
 use Rattle.core_store.specs.declared.checks.Check.{Check}
 use Rattle.core_store.specs.declared.checks.Check.TheVariants.{Address, Instruction, Data, Overlap, ReaderEmpty, PunchFull, PrinterFull}
 use Rattle.core_store.specs.declared.registers.Compared.{Compared}
@@ -22,25 +24,22 @@ use Rattle.units.specs.declared.ranges.Place.{Place}
 use Rattle.units.specs.Pockets.{pocket_number}
 use Rattle.units.specs.Ranges.{AreRising, IsOnForm, carriage_place, line_place, places_then, the_top}
 use Rattle.units.proofs.InRange.{begins_take}
-use Rattle.machine.specs.Ranges.{IsInRange}
+use Rattle.machine.specs.Ranges.{HasSize, IsInRange}
 use Rattle.machine.specs.Run.{State, after, lines_of, step}
 use Rattle.machine.specs.declared.standings.Standing.{Standing}
 use Rattle.machine.specs.declared.standings.Standing.TheVariants.{Running, Halted, Checked}
-use Rattle.machine.proofs.InRange.{after_in_range}
 use Rattle.machine.proofs.Steps.{after-after, after_one, stems_after, stems_same}
 use Rattle.run_traces.specs.Names.{Named}
 use Rattle.films.specs.Changes.{Item, all_played, cell_is, cell_items, change, differences, is_same_cell, number_is, number_items, played, printed, punched}
-use Rattle.films.specs.Films.{film_text, text_before}
-use Rattle.films.specs.Frames.{CardShown, ComesBehind, Frame, LineShown, card_shown, cards_before, cards_of, check_number, compared_number, frame_of, indicator_number, line_shown, lines_before, nothing, numbers_of, standing_number, waiting_number}
+use Rattle.films.specs.Films.{film_text}
+use Rattle.films.specs.Frames.{ComesBehind, Frame, card_shown, cards_before, cards_of, check_number, compared_number, frame_of, indicator_number, line_shown, lines_before, nothing, numbers_of, standing_number, waiting_number}
 use Rattle.films.specs.Laws.{IsReadable}
 use Rattle.films.specs.Reading.{changes_read}
-use Rattle.films.specs.Signs.{signs_on}
 use Rattle.films.specs.Steps.{change_lines, step_lines}
 use Rattle.films.specs.Texts.{change_line, first_line, item_texts, step_line}
 use Rattle.films.specs.Worked.{worked}
 use Rattle.films.specs.declared.signs.Surface.TheVariants.{OnCard, OnPaper}
 use Rattle.films.proofs.ChangeLaw.{change_played}
-use Rattle.films.proofs.ItemsRead.{IsItem}
 use Rattle.films.proofs.SignsRead.{signs_clean}
 use Rattle.films.proofs.TextsRead.{AreItems, before_read, both_items, change_again, none_read, worked_other}
 
@@ -112,22 +111,60 @@ unfolding numbers_of
 numbers_small m range few =
     let r = range.registers in
     let u = range.units in
-    let on = (lines_on the_top (lines_of m) (carriage_place m.works.units.printer.carriage) u.printer.places).1 in
-    (omega (arith, r.i),
-    (omega (arith, r.a),
-    (omega (arith, r.b),
-    (compared_small m.works.registers.compare,
-    (indicator_small m.works.registers.overflow,
-    (indicator_small m.works.units.printer.carriage.channel_12,
-    (waiting_small m.works.units.printer.carriage.waiting,
-    (omega (arith, on.1),
-    (omega (arith, on.3),
-    (omega (arith, u.reader.most, few),
-    (pocket_small m.works.units.punch.chosen,
-    (standing_small m.standing,
-    (omega (arith, u.printer.most),
-    (omega (arith, u.punch),
-    tt))))))))))))))
+    let on = (lines_on the_top (lines_of m) (carriage_place m.works.units.printer.carriage) u.printer.places).1 in (
+      omega (arith, r.i),
+      (
+        omega (arith, r.a),
+        (
+          omega (arith, r.b),
+          (
+            compared_small m.works.registers.compare,
+            (
+              indicator_small m.works.registers.overflow,
+              (
+                indicator_small m.works.units.printer.carriage.channel_12,
+                (
+                  waiting_small m.works.units.printer.carriage.waiting,
+                  (
+                    omega (arith, on.1),
+                    (
+                      omega (arith, on.3),
+                      (
+                        omega (arith, u.reader.most, few),
+                        (
+                          pocket_small m.works.units.punch.chosen,
+                          (
+                            standing_small m.standing,
+                            (
+                              omega (arith, u.printer.most),
+                              (
+                                omega (arith, u.punch),
+                                tt,
+                              ),
+                            ),
+                          ),
+                        ),
+                      ),
+                    ),
+                  ),
+                ),
+              ),
+            ),
+          ),
+        ),
+      ),
+    )
+
+positions_small : (size : Size) → positions_of size ≤ largest_size
+positions_small Positions1400 = omega arith
+positions_small Positions2000 = omega arith
+positions_small Positions4000 = omega arith
+positions_small Positions8000 = omega arith
+positions_small Positions12000 = omega arith
+positions_small Positions16000 = omega arith
+
+size_small : (m : State) → HasSize m.works.storage → length m.works.storage ≤ largest_size
+size_small m has = omega (arith, has.1, positions_small has.0)
 
 -- ---- the items of a change can be read
 
@@ -191,7 +228,7 @@ change_is_read old lines cards m can =
     let n = numbers_here old.numbers m can in
     let l = lines_from (length old.paper) lines (lines_of m) all_lines in
     let c = cards_from (length old.punched) cards (cards_of m) in
-    let p = cells_are old.storage m.works.storage can.characters can.size (length m.works.storage) (omega arith) in
+    let p = cells_are old.storage m.works.storage can.characters (size_small m can.range.size) (length m.works.storage) (omega arith) in
     both_items ((ns ++ ls) ++ cs) ps (both_items (ns ++ ls) cs (both_items ns ls n l) c) p
 
 -- ---- the lines of steps are read as their changes

@@ -1,9 +1,9 @@
 -- the film of a run
-use Rattle.std.proofs.Common.{◌≡◌, ℕ, ◌+◌, ◌-◌, ◌<◌, ◌≤◌, List, ◌∷◌, ◌++◌, length, length-set, min, refl, sym, ap, ◌∙◌, arith}
+use Rattle.std.proofs.Common.{◌≡◌, ℕ, ◌+◌, ◌-◌, ◌≤◌, List, ◌++◌, length, length-set, sym, ap, ◌∙◌, arith}
 use Rattle.std.specs.Prelude.{Option}
 use Rattle.std.proofs.lemmas.List.{length-replicate}
 use Rattle.cards.specs.declared.decks.Card.{Card}
-use Rattle.core_store.specs.Storage.{Storage, blank_cell, blank_storage, positions_of, put_codes}
+use Rattle.core_store.specs.Storage.{blank_cell, blank_storage, positions_of, put_codes}
 use Rattle.core_store.specs.declared.sizes.Size.{Size}
 use Rattle.core_store.proofs.Fields.{length-put_codes}
 use Rattle.units.specs.declared.profiles.Profile.TheVariants.{Selecting}

@@ -1,5 +1,5 @@
 -- no sign ends a word or a line
-use Rattle.std.proofs.Common.{◌≡◌, ℕ, ◌+◌, ◌-◌, ◌<◌, ◌≤◌, ◌==◌, ◌&&◌, not, Bool, true, false, List, [], ◌∷◌, length, map, take, refl, sym, ap, ◌∙◌, arith}
+use Rattle.std.proofs.Common.{◌≡◌, ℕ, ◌-◌, ◌<◌, ◌==◌, ◌&&◌, not, Bool, true, false, List, [], ◌∷◌, length, map, take, refl, ap, ◌∙◌, arith}
 use Rattle.std.specs.List.{suffix_len}
 use Rattle.std.proofs.Math.Decide.{dec_lt}
 use Rattle.std.proofs.lemmas.List.{take-map}
@@ -47,9 +47,10 @@ all_words surface [] = (refl, refl)
 all_words surface (code ∷ codes) =
     let sign = sign_of (glyph_on surface code) in
     let here = two (not (sign == 32)) (not (sign == 10)) (sign_is_word surface code) in
-    let rest = all_words surface codes in
-    (ap (λ b. b && has_none 32 (map sign_of (map (glyph_on surface) codes))) here.0 ∙ rest.0,
-    ap (λ b. b && has_none 10 (map sign_of (map (glyph_on surface) codes))) here.1 ∙ rest.1)
+    let rest = all_words surface codes in (
+      ap (λ b. b && has_none 32 (map sign_of (map (glyph_on surface) codes))) here.0 ∙ rest.0,
+      ap (λ b. b && has_none 10 (map sign_of (map (glyph_on surface) codes))) here.1 ∙ rest.1,
+    )
 
 -- the signs on a surface have no blank and no line feed
 pub signs_clean : (surface : Surface) (codes : List ℕ) → IsClean (signs_on surface codes)

@@ -1,7 +1,7 @@
 -- the lines of a film's steps
-use Rattle.std.proofs.Common.{◌≡◌, ◌≢◌, ℕ, zero, suc, ◌+◌, ◌-◌, ◌<◌, ◌≤◌, ◌==◌, Bool, true, false, cond, List, [], ◌∷◌, ◌++◌, length, length-append, map, drop, replicate, refl, sym, ap, ◌∙◌, arith, append-nil, append_assoc}
-use Rattle.std.specs.Prelude.{Option, Some, None, nat_lt, position, unwrap_or}
-use Rattle.std.specs.List.{flat_map, position_or_len, prefix_len}
+use Rattle.std.proofs.Common.{◌≡◌, ℕ, zero, suc, ◌+◌, ◌-◌, ◌<◌, ◌≤◌, ◌==◌, Bool, true, false, cond, List, [], ◌∷◌, ◌++◌, length, length-append, map, drop, replicate, refl, sym, ap, ◌∙◌, arith, append-nil, append_assoc}
+use Rattle.std.specs.Prelude.{Some, None, nat_lt, unwrap_or}
+use Rattle.std.specs.List.{position_or_len}
 use Rattle.std.proofs.Math.Decide.{dec_lt}
 use Rattle.std.proofs.lemmas.List.{drop-drop, drop-map, length-drop, length-map}
 use Rattle.std.proofs.lemmas.List.Concat.{flat_map-append}
@@ -169,9 +169,10 @@ none_fits m asked text is long = record {
 -- a machine that stopped before all steps were made
 pub stops : (m : State) (made limit : ℕ) → made ≤ limit → is_running (after m made).standing ≡ false → attempts m made ≡ made → (after m made ≡ after m limit) × (made ≡ attempts m limit)
 stops m made limit within stopped all =
-    let whole : made + (limit - made) ≡ limit = omega arith in
-    (sym (after_stopped (after m made) (limit - made) stopped) ∙ after-after m made (limit - made) ∙ ap (after m) whole,
-    omega (arith, all, attempts-add m made (limit - made), attempts_stopped (after m made) (limit - made) stopped, ap (attempts m) whole))
+    let whole : made + (limit - made) ≡ limit = omega arith in (
+      sym (after_stopped (after m made) (limit - made) stopped) ∙ after-after m made (limit - made) ∙ ap (after m) whole,
+      omega (arith, all, attempts-add m made (limit - made), attempts_stopped (after m made) (limit - made) stopped, ap (attempts m) whole),
+    )
 
 -- one that goes on
 pub goes_on : (m : State) (made : ℕ) → is_running (after m made).standing ≡ true → attempts m made ≡ made → attempts m (made + 1) ≡ made + 1

@@ -1,26 +1,24 @@
 -- the lines of a film's text are read as its changes
-use Rattle.std.proofs.Common.{◌≡◌, ℕ, zero, suc, ◌+◌, ◌-◌, ◌^◌, ◌<◌, ◌≤◌, ◌/◌, ◌%◌, ◌==◌, ◌&&◌, not, Bool, true, false, List, [], ◌∷◌, ◌++◌, length, map, take, drop, decimal, refl, sym, ap, ◌∙◌, arith, append-nil, append_assoc, if◌then◌else◌, cond}
+use Rattle.std.proofs.Common.{◌≡◌, ℕ, zero, suc, ◌+◌, ◌-◌, ◌<◌, ◌/◌, ◌%◌, ◌==◌, ◌&&◌, not, Bool, true, false, List, [], ◌∷◌, ◌++◌, length, map, drop, decimal, refl, ap, ◌∙◌, arith, append-nil, append_assoc, if◌then◌else◌, cond}
 use Rattle.std.specs.Prelude.{Option, Some, None, filter, slice_get, codes}
 use Rattle.std.specs.Fmt.{digits, digits_onto, digit_glyph}
-use Rattle.std.specs.List.{flat_map, list_all}
+use Rattle.std.specs.List.{flat_map}
 use Rattle.std.proofs.lemmas.List.Concat.{flat_map-append}
 use Rattle.bcd.proofs.Tables.{at_each}
 use Rattle.cards.specs.declared.decks.Card.{Card}
 use Rattle.autocoder.specs.Listing.{fills}
 use Rattle.autocoder_layout.specs.declared.slots.Slot.{Slot}
-use Rattle.machine.specs.Run.{State, after, is_checked, step}
+use Rattle.machine.specs.Run.{State, is_checked, step}
 use Rattle.machine.specs.Word.{word_length}
 use Rattle.check_causes.specs.Worked.{fields_worked}
 use Rattle.run_traces.specs.Names.{Named}
 use Rattle.pictures.specs.Reading.{pieces}
 use Rattle.pictures.proofs.PiecesRead.{has_none, none_in_both, one_piece, pieces_both}
-use Rattle.films.specs.Changes.{Item, change}
+use Rattle.films.specs.Changes.{Item}
 use Rattle.films.specs.Films.{deck_line, deck_lines, named_lines, place_word, reader_lines, size_lines, source_line, source_lines, text_before}
-use Rattle.films.specs.Frames.{frame_of}
 use Rattle.films.specs.Reading.{changes_read, is_change, items_read, word_read, word_read_by}
 use Rattle.films.specs.Signs.{signs_on}
-use Rattle.films.specs.Steps.{step_lines}
-use Rattle.films.specs.Texts.{change_line, item_text, item_texts, spaced, step_line, words_text}
+use Rattle.films.specs.Texts.{change_line, item_texts, words_text}
 use Rattle.films.specs.Worked.{behind, fields_spans, instruction_span, span, worked}
 use Rattle.films.specs.declared.signs.Surface.TheVariants.{OnCard}
 use Rattle.films.proofs.ItemsRead.{IsClean, IsItem, item_again, word_clean}
@@ -239,8 +237,9 @@ pub worked_other : (m : State) → AreOther (worked m)
 unfolding worked
 worked_other m =
     let front = by_count m.works.registers.i (word_length m.works.storage m.works.registers.i) in
-    let back = by_fields (fields_worked m.works) (step m) in
-    (both_words (instruction_span m.works.registers.i (word_length m.works.storage m.works.registers.i)) (fields_spans (fields_worked m.works) (step m)) front.0 back.0,
-    flat_map-append word_read (instruction_span m.works.registers.i (word_length m.works.storage m.works.registers.i)) (fields_spans (fields_worked m.works) (step m))
-    ∙ ap (λ read. read ++ flat_map word_read (fields_spans (fields_worked m.works) (step m))) front.1
-    ∙ back.1)
+    let back = by_fields (fields_worked m.works) (step m) in (
+      both_words (instruction_span m.works.registers.i (word_length m.works.storage m.works.registers.i)) (fields_spans (fields_worked m.works) (step m)) front.0 back.0,
+      flat_map-append word_read (instruction_span m.works.registers.i (word_length m.works.storage m.works.registers.i)) (fields_spans (fields_worked m.works) (step m))
+          ∙ ap (λ read. read ++ flat_map word_read (fields_spans (fields_worked m.works) (step m))) front.1
+          ∙ back.1,
+    )

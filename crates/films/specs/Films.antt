@@ -67,8 +67,8 @@ abbrev pub text_before : Option Named → ℕ → ℕ → State → List ℕ
 text_before names made taken end = size_lines (length end.works.storage) made
     ++ named_lines names ++ reader_lines taken end
 
--- the text of a film of so many steps of a machine, which had made so many before, by the names of a
--- source
+-- the text of a film of so many steps of a machine, which had made so many before, by the names of
+-- a source
 unfoldable pub film_text : Option Named → ℕ → State → ℕ → List ℕ
 film_text names made m steps =
     text_before names made m.works.units.hopper.taken (after m steps) ++ change_lines m steps
@@ -106,15 +106,15 @@ end_cause m = if is_checked m.standing then cause m.works else None
 -- this is the film of a machine's run, by the names of a source
 pub record IsFilm (names : Option Named) (options : FilmOptions) (m : State) (film : Film) : Type 0
   where
-  pub text : film.text.items
-      ≡ film_text names (attempts m (passed_over options)) (begun options m) (steps_of options m)
-  pub short : length (change_lines (begun options m) (steps_of options m)) ≤ most_bytes
-  pub made : film.made ≡ attempts m (passed_over options)
-  pub steps : film.steps ≡ steps_of options m
-  pub standing : film.standing ≡ standing_of (ended options m)
-  pub cause : film.cause ≡ end_cause (ended options m)
-  pub instructions : film.instructions ≡ attempts m most_instructions
-  pub report : film.report ≡ report_of (after m most_instructions)
+    pub text : film.text.items
+        ≡ film_text names (attempts m (passed_over options)) (begun options m) (steps_of options m)
+    pub short : length (change_lines (begun options m) (steps_of options m)) ≤ most_bytes
+    pub made : film.made ≡ attempts m (passed_over options)
+    pub steps : film.steps ≡ steps_of options m
+    pub standing : film.standing ≡ standing_of (ended options m)
+    pub cause : film.cause ≡ end_cause (ended options m)
+    pub instructions : film.instructions ≡ attempts m most_instructions
+    pub report : film.report ≡ report_of (after m most_instructions)
 
 -- why there is no film of a machine's run
 abbrev pub IsHinderedAt : FilmOptions → State → FilmError → Type 0

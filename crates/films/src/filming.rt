@@ -111,7 +111,8 @@ fn push_step<C: Core>(
     Ok(())
 }
 
-/// Adds the line of the first frame of a machine, from this number of its lines and of its cards on.
+/// Adds the line of the first frame of a machine, from this number of its lines and of its cards
+/// on.
 #[tactic(auto, unfolding(crate::specs::Texts::change_line))]
 fn push_first_line<C: Core>(
     out: &mut Vec<u8>,

@@ -79,7 +79,8 @@ impl FilmOptions {
     fn most_steps(self) -> u32
         ensures { result ≡ most_steps self }
     {
-        self.count.min(MOST_INSTRUCTIONS.saturating_sub(self.passed_over()))
+        self.count
+            .min(MOST_INSTRUCTIONS.saturating_sub(self.passed_over()))
     }
 
     /// How many steps come behind those of the film, to the end of a whole run.

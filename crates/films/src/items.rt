@@ -170,11 +170,7 @@ impl Shown {
 }
 
 /// Adds the words for the positions of a machine whose contents are others than before.
-fn push_storage<C: Core>(
-    out: &mut Vec<u8>,
-    storage: &C,
-    parts: &Parts<C>,
-) -> Result<(), AllocError>
+fn push_storage<C: Core>(out: &mut Vec<u8>, storage: &C, parts: &Parts<C>) -> Result<(), AllocError>
     requires { length (C.cells storage.now) ≡ length parts.now.works.storage }
     ensures { OnOk result (out.new.items ≡ out.old.items
         ++ items_text (cell_items (C.cells storage.now) parts.now.works.storage)) }

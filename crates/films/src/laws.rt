@@ -18,8 +18,8 @@ pub fn changes_are_played()
     ensures { (old new : Frame) → ComesBehind old new → played old (change old new) ≡ new }
 {}
 
-/// The law of films: of the changes that are read of a film's text, the first and n more, played one
-/// after the other on nothing, give the frame of the machine after n steps.
+/// The law of films: of the changes that are read of a film's text, the first and n more, played
+/// one after the other on nothing, give the frame of the machine after n steps.
 #[tactic(auto, using(crate::proofs::FilmLaw::film_again))]
 pub fn film_is_read()
     ensures { (names : Option Named) (made : ℕ) (m : State) (steps n : ℕ) →

@@ -80,11 +80,7 @@ pub(crate) fn push_names(out: &mut Vec<u8>, names: Option<&Names>) -> Result<(),
 }
 
 /// Adds the line of a card of a deck with this number, if the deck has it.
-fn push_deck_line(
-    out: &mut Vec<u8>,
-    number: usize,
-    card: Option<&Card>,
-) -> Result<(), AllocError>
+fn push_deck_line(out: &mut Vec<u8>, number: usize, card: Option<&Card>) -> Result<(), AllocError>
     ensures { OnOk result (out.new.items
         ≡ out.old.items ++ deck_line number (option_copied card.entry)) }
 {

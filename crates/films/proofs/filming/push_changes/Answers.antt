@@ -1,7 +1,5 @@
-use Rattle.std.proofs.Common.{◌++◌, ◌∙◌, ap, arith, length, sym}
-use Rattle.machine.specs.Run.{State, attempts}
-use Rattle.films.specs.Frames.{cards_before, lines_before}
-use Rattle.films.specs.Texts.{first_line}
+use Rattle.std.proofs.Common.{ap, arith, length}
+use Rattle.machine.specs.Run.{attempts}
 use Rattle.films.proofs.StepLemmas.{first_is, none_fits}
 use Rattle.films.proofs.filming.push_changes.Goals as goal
 

@@ -1,6 +1,5 @@
 use Rattle.std.proofs.Common.{◌++◌, ◌∙◌, ap}
 use Rattle.films.specs.declared.items.Shown.{Shown}
-use Rattle.films.specs.Frames.{shown_of}
 use Rattle.films.specs.Worked.{place_of}
 use Rattle.films.proofs.StepLemmas.{cards_within, lines_within, size_within, step_text}
 use Rattle.films.proofs.filming.push_step.Goals as goal

@@ -1,4 +1,4 @@
-use Rattle.std.proofs.Common.{◌≡◌, ◌+◌, ◌++◌, ◌≤◌, ◌∙◌, ap, arith, length, sym, true, false}
+use Rattle.std.proofs.Common.{◌≡◌, ◌++◌, ◌∙◌, ap, arith, length, sym, true, false}
 use Rattle.machine.specs.Run.{State, after, attempts, is_running, step}
 use Rattle.films.specs.Frames.{cards_before, lines_before, shown_of}
 use Rattle.films.specs.Texts.{step_line}
@@ -37,7 +37,7 @@ returns-then-len-gt-MOST_BYTES-clause-too_long g c =
     (c.runs.ensures ∙ ap (λ (x : State). is_running x.standing) (c.parts-in-loop-made.ensures.picture ∙ c.loop-made.invariant.machine))
     ∙ c.if-not-runs.false in
     let line = c.in_ok-push_step.ensures.line (lines_before m) (cards_before m) (lines_here m c.loop-made.machine made c.loop-made.invariant.machine) (cards_here m c.loop-made.machine made c.loop-made.invariant.machine)
-        ∙ ap (λ (x : State). c.loop-made.out.items ++ step_line (lines_before m) (cards_before m) x) c.loop-made.invariant.machine in
+    ∙ ap (λ (x : State). c.loop-made.out.items ++ step_line (lines_before m) (cards_before m) x) c.loop-made.invariant.machine in
     let next = change_more m made c.loop-made.out.items c.push_step.new.out.items c.loop-made.invariant.lines line in
     is_most m (attempts m c.args.limit) made c.push_step.new.out.items (asked_more m made c.args.limit (omega (arith, c.loop-made-test.true)) (goes_on m made on c.loop-made.invariant.attempts))
     (omega (arith, c.loop-made.invariant.fits, ap length c.loop-made.invariant.lines)) next (omega (arith, c.if-len-gt-MOST_BYTES.true, c.len.ensures))
@@ -50,7 +50,7 @@ loop-made-preserved g c =
     (c.runs.ensures ∙ ap (λ (x : State). is_running x.standing) (c.parts-in-loop-made.ensures.picture ∙ c.loop-made.invariant.machine))
     ∙ c.if-not-runs.false in
     let line = c.in_ok-push_step.ensures.line (lines_before m) (cards_before m) (lines_here m c.loop-made.machine made c.loop-made.invariant.machine) (cards_here m c.loop-made.machine made c.loop-made.invariant.machine)
-        ∙ ap (λ (x : State). c.loop-made.out.items ++ step_line (lines_before m) (cards_before m) x) c.loop-made.invariant.machine in
+    ∙ ap (λ (x : State). c.loop-made.out.items ++ step_line (lines_before m) (cards_before m) x) c.loop-made.invariant.machine in
     record {
       machine = c.in_ok-push_step.ensures.machine ∙ ap step c.loop-made.invariant.machine ∙ next_is m made;
       attempts = goes_on m made on c.loop-made.invariant.attempts;

@@ -18,16 +18,30 @@ push_changes-requires-clause-blank c =
 
 pub overflow_add-result : goal.overflow_add-result
 overflow_add-result c =
-    omega
-    (arith, c.in_ok-made.ensures.attempts, attempts_fit c.in_ok-machine.machine c.passed_over-passed.result, c.passed_over-passed.ensures, c.in_ok-steps.ensures.steps,
-    attempts_fit c.advance.new.machine c.most_steps-limit.result, c.most_steps-limit.ensures)
+    omega (
+      arith,
+      c.in_ok-made.ensures.attempts,
+      attempts_fit c.in_ok-machine.machine c.passed_over-passed.result,
+      c.passed_over-passed.ensures,
+      c.in_ok-steps.ensures.steps,
+      attempts_fit c.advance.new.machine c.most_steps-limit.result,
+      c.most_steps-limit.ensures,
+    )
 
 pub overflow_add-result-2 : goal.overflow_add-result-2
 overflow_add-result-2 c =
-    omega
-    (arith, c.in_ok-made.ensures.attempts, attempts_fit c.in_ok-machine.machine c.passed_over-passed.result, c.passed_over-passed.ensures, c.in_ok-steps.ensures.steps,
-    attempts_fit c.advance.new.machine c.most_steps-limit.result, c.most_steps-limit.ensures, c.in_ok-more.ensures.attempts, attempts_fit c.push_changes.new.machine c.steps_behind-rest.result,
-    c.steps_behind-rest.ensures)
+    omega (
+      arith,
+      c.in_ok-made.ensures.attempts,
+      attempts_fit c.in_ok-machine.machine c.passed_over-passed.result,
+      c.passed_over-passed.ensures,
+      c.in_ok-steps.ensures.steps,
+      attempts_fit c.advance.new.machine c.most_steps-limit.result,
+      c.most_steps-limit.ensures,
+      c.in_ok-more.ensures.attempts,
+      attempts_fit c.push_changes.new.machine c.steps_behind-rest.result,
+      c.steps_behind-rest.ensures,
+    )
 
 pub returns-clause-film : goal.returns-clause-film
 returns-clause-film c =
@@ -44,9 +58,9 @@ returns-clause-film c =
     let is_more = c.in_ok-more.ensures.attempts ∙ ap (attempts y) c.steps_behind-rest.ensures in
     let taken = c.cards_read-taken.ensures ∙ ap (λ (s : State). s.works.units.hopper.taken) c.parts.ensures.picture in
     let before = c.in_ok-text.ensures ∙ ap (λ n. text_before names c.in_ok-made.made n c.parts-parts.result.now) taken
-        ∙ ap (λ (s : State). text_before names c.in_ok-made.made x.works.units.hopper.taken s) c.parts-parts.ensures.picture in
+    ∙ ap (λ (s : State). text_before names c.in_ok-made.made x.works.units.hopper.taken s) c.parts-parts.ensures.picture in
     let is_text = c.in_ok-extend_from_slice.ensures.items ∙ ap (λ text. text ++ c.deref.result.now) before
-        ∙ ap (λ text. text_before names c.in_ok-made.made x.works.units.hopper.taken y ++ text) c.deref.ensures.value in
+    ∙ ap (λ text. text_before names c.in_ok-made.made x.works.units.hopper.taken y ++ text) c.deref.ensures.value in
     is_film names c.args.options m x y c.advance-2.new.machine _ c.push_changes.new.out.items c.in_ok-more.more is_x is_y is_z is_made is_steps is_more c.in_ok-steps.ensures.lines c.in_ok-steps.ensures.short is_text
     (c.standing_at-standing.ensures ∙ ap standing_of c.parts-parts.ensures.picture) (c.end_cause-cause.ensures ∙ ap end_cause c.parts-parts.ensures.picture) refl
     (c.of.ensures ∙ ap report_of c.parts-2.ensures.picture)
