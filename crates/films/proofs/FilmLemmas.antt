@@ -54,10 +54,13 @@ is_film names options m x y z film changes more is_x is_y is_z is_made is_steps 
     }
 
 -- the size of a storage after the load button and so many steps
-pub size_loaded : (deck : List Card) (size : Size) (switches : Switches) (count : ℕ) (x : State) → x ≡ after (loaded deck size switches Selecting) count
-    → blank_storage (positions_of size) ≡ blank_storage (length x.works.storage)
-size_loaded deck size switches count x is =
+pub positions_loaded : (deck : List Card) (size : Size) (switches : Switches) (count : ℕ) (x : State) → x ≡ after (loaded deck size switches Selecting) count
+    → positions_of size ≡ length x.works.storage
+positions_loaded deck size switches count x is =
     let m = loaded deck size switches Selecting in
     let s = put_codes (blank_storage (positions_of size)) 1 (first_card deck) in
-    ap blank_storage
-    (sym (ap (λ (y : State). length y.works.storage) is ∙ (stems_after m m count (stems_same m)).size ∙ length-set s 1 _ ∙ length-put_codes (blank_storage (positions_of size)) 1 (first_card deck) ∙ length-replicate (positions_of size) blank_cell))
+    sym (ap (λ (y : State). length y.works.storage) is ∙ (stems_after m m count (stems_same m)).size ∙ length-set s 1 _ ∙ length-put_codes (blank_storage (positions_of size)) 1 (first_card deck) ∙ length-replicate (positions_of size) blank_cell)
+
+pub size_loaded : (deck : List Card) (size : Size) (switches : Switches) (count : ℕ) (x : State) → x ≡ after (loaded deck size switches Selecting) count
+    → blank_storage (positions_of size) ≡ blank_storage (length x.works.storage)
+size_loaded deck size switches count x is = ap blank_storage (positions_loaded deck size switches count x is)

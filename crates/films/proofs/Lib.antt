@@ -9,3 +9,4 @@ mod SignsRead
 mod TextsRead
 mod FilmLaw
 mod FilmLemmas
+mod RunLaw

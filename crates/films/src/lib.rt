@@ -11,7 +11,8 @@
 //!
 //! Laws: a change played on a frame gives the next one ([`changes_are_played`]), and the changes
 //! that are read of a film's text (`specs/Reading.antt`), played one after the other, give the
-//! frames of the machine after each step ([`film_is_read`]).
+//! frames of the machine after each step ([`film_is_read`]), so of a run from the load button on
+//! ([`film_of_a_run_is_read`]).
 #![tactic(auto)]
 
 mod bodies;
@@ -28,5 +29,5 @@ mod spans;
 mod styles;
 
 pub use films::{Film, FilmError, FilmOptions, instructions_of};
-pub use laws::{changes_are_played, film_is_read};
+pub use laws::{changes_are_played, film_is_read, film_of_a_run_is_read};
 pub use pages::{Subject, film_page};
