@@ -5,7 +5,7 @@ use Rattle.std.proofs.lemmas.Bool.{eqb-true}
 use Rattle.std.proofs.lemmas.List.{take-append-drop, take_more, take_all, drop_more, drop_all, set_at, length-take-le}
 use Rattle.std.proofs.lemmas.List.Sums.{fold-append}
 use Rattle.core_store.specs.Storage.{blank_cell}
-use Rattle.films.specs.Changes.{Item, cell_is, cell_items, change, differences, is_same_cell, number_is, number_items, played, printed, punched, with_item}
+use Rattle.films.specs.Changes.{cell_is, cell_items, change, differences, is_same_cell, number_is, number_items, played, printed, punched, with_item}
 use Rattle.films.specs.Frames.{CardShown, ComesBehind, Frame, LineShown}
 
 -- ---- differences, put into the list from which they differ

@@ -3,3 +3,10 @@ mod SignLemmas
 mod ChangeLaw
 mod ItemLemmas
 mod SourceLemmas
+mod StepLemmas
+mod ItemsRead
+mod SignsRead
+mod TextsRead
+mod FilmLaw
+mod FilmLemmas
+mod RunLaw

@@ -43,11 +43,11 @@ unfolding fits
 is_blank_by glyph test is =
     eqb-true glyph blank (sym (ap (λ b. if b then eqb glyph blank else true) (eq-eqb (sign_of glyph) 126 is)) ∙ test)
 
-no_glyph : (n : ℕ) → 64 ≤ n → glyph_of n ≡ 0
+pub no_glyph : (n : ℕ) → 64 ≤ n → glyph_of n ≡ 0
 unfolding glyph_of
 no_glyph n h = get_or_past glyphs n 0 h
 
-none_shown : (n : ℕ) → 64 ≤ n → shown n ≡ 0
+pub none_shown : (n : ℕ) → 64 ≤ n → shown n ≡ 0
 unfolding shown
 none_shown n h = ap (λ g. if list_any (λ other. eqb g other) not_on_the_chain then blank else g) (no_glyph n h)
 

@@ -4,8 +4,8 @@ use Rattle.core_store.specs.Storage.{Storage, blank_cell}
 use Rattle.machine.specs.Run.{State, lines_of}
 use Rattle.films.specs.Frames.{CardShown, Frame, LineShown, card_shown, cards_of, line_shown, numbers_of}
 
--- one thing that changes: the number at this place is this one now; this position has this character
--- and this mark now; this line was printed; this card was punched
+-- one thing that changes: the number at this place is this one now; this position has this
+-- character now, with a mark or without one; this line was printed; this card was punched
 pub data Item : Type 0 where
   number_is : ℕ → ℕ → Item
   cell_is : ℕ → ℕ × Bool → Item

@@ -67,8 +67,8 @@ abbrev pub text_before : Option Named → ℕ → ℕ → State → List ℕ
 text_before names made taken end = size_lines (length end.works.storage) made
     ++ named_lines names ++ reader_lines taken end
 
--- the text of a film of so many steps of a machine, which had made so many before, by the names of a
--- source
+-- the text of a film of so many steps of a machine, which had made so many before, by the names of
+-- a source
 unfoldable pub film_text : Option Named → ℕ → State → ℕ → List ℕ
 film_text names made m steps =
     text_before names made m.works.units.hopper.taken (after m steps) ++ change_lines m steps
@@ -86,6 +86,10 @@ begun options m = after m (passed_over options)
 -- how many steps a film has at most: no more than a whole run
 abbrev pub most_steps : FilmOptions → ℕ
 most_steps options = min options.count (most_instructions - passed_over options)
+
+-- how many steps come behind those, to the end of a whole run
+abbrev pub rest_of : FilmOptions → ℕ
+rest_of options = most_instructions - passed_over options - most_steps options
 
 -- how many steps a film has: as many as are asked for, but none behind the first halt or check
 abbrev pub steps_of : FilmOptions → State → ℕ

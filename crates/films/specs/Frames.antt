@@ -29,8 +29,8 @@ pub record CardShown : Type 0 where
   pub pocket : ℕ
   pub signs : List ℕ
 
--- a frame: the numbers of a machine, its storage, and the lines and cards that it has made since the
--- film begins
+-- a frame: the numbers of a machine, its storage, and the lines and cards that it has made since
+-- the film begins
 pub record Frame : Type 0 where
   pub numbers : List ℕ
   pub storage : Storage

@@ -6,4 +6,5 @@ pub mod Texts
 pub mod Steps
 pub mod Reading
 pub mod Films
+pub mod Laws
 pub mod Pages

@@ -1,5 +1,5 @@
 -- the page of a film
-use Rattle.std.specs.Prelude.{ℕ, ◌+◌, ◌==◌, if◌then◌else◌, List, ◌++◌, codes, decimal, Option}
+use Rattle.std.specs.Prelude.{ℕ, ◌+◌, ◌==◌, if◌then◌else◌, List, ◌++◌, codes, decimal}
 use Rattle.core_store.specs.declared.sizes.Size.{Size}
 use Rattle.core_store.specs.Storage.{positions_of}
 use Rattle.units.specs.declared.switches.Switches.{Switches}
@@ -20,8 +20,8 @@ use Rattle.films.specs.declared.styles.TheConstants.{FILM_STYLE}
 -- the head of the page, with its title
 abbrev pub film_head : List ℕ → List ℕ
 film_head title = page_head title ++ codes "<style>" ++ FILM_STYLE.now ++ CARD_STYLE.now
-    ++ codes "</style><noscript><style>#film{display:block!important}#keys,main{display:none}"
-    ++ codes "</style></noscript>\n"
+    ++ (codes "</style><noscript><style>#film{display:block!important}"
+    ++ codes "#keys,main{display:none}</style></noscript>\n")
 
 -- what was run: the name of the deck, and the machine
 abbrev pub machine_fact : List ℕ → Size → Switches → List ℕ
@@ -55,6 +55,6 @@ film_part text = codes "<pre id=film hidden>\n" ++ text ++ codes "</pre>\n<scrip
     ++ FILM_SCRIPT.now ++ codes "</script></html>\n"
 
 -- the page of a film
-unfoldable pub page_of : Subject → Film → List ℕ
+abbrev pub page_of : Subject → Film → List ℕ
 page_of subject film = film_head subject.title.now ++ page_header subject film ++ FILM_BODY.now
     ++ stock_definition ++ film_part film.text.items

@@ -1,5 +1,5 @@
 -- the changes that the text of a film shows, as its reader takes them
-use Rattle.std.specs.Prelude.{ℕ, ◌-◌, ◌==◌, nat_le, Bool, ◌&&◌, if◌then◌else◌, List, [], ◌∷◌, length, map, drop, filter, slice_index, position, Option, Some, None, unwrap_or, codes}
+use Rattle.std.specs.Prelude.{ℕ, ◌-◌, ◌==◌, nat_le, Bool, ◌&&◌, if◌then◌else◌, List, [], ◌∷◌, length, map, drop, filter, slice_index, position, Option, Some, None, unwrap_or}
 use Rattle.std.specs.List.{flat_map, before_first, after_first}
 use Rattle.std.specs.Str.Parse.{digits_value}
 use Rattle.pictures.specs.Reading.{pieces}
@@ -33,7 +33,7 @@ abbrev pub line_read : List ℕ → LineShown
 line_read text = record {
   form = number_read (before 46 text);
   line = number_read (before 58 (behind 46 text));
-  signs = behind 58 text;
+  signs = behind 58 (behind 46 text);
 }
 
 -- the card of a word behind its letter
@@ -50,7 +50,8 @@ number_at (Some place) text = number_is place (number_read text) ∷ []
 unfoldable pub word_read_by : ℕ → List ℕ → List Item
 word_read_by letter text =
     if nat_le 48 letter && nat_le letter 57
-    then cell_is (number_read (before 58 (letter ∷ text))) (cell_read (behind 58 text)) ∷ []
+    then cell_is (number_read (before 58 (letter ∷ text)))
+    (cell_read (behind 58 (letter ∷ text))) ∷ []
     else (if letter == 112 then printed (line_read text) ∷ []
     else (if letter == 117 then punched (card_read text) ∷ []
     else number_at (position (λ other. other == letter) letters) text))

@@ -15,7 +15,8 @@ glyphs_replaced = codes " &\\><\""
 abbrev pub their_signs : List ℕ
 their_signs = codes "~abglq"
 
--- the sign of the glyph at this place among those that are written by other signs, or else the glyph
+-- the sign of a glyph that is at this place among those that are written by other signs; of any
+-- other glyph itself
 abbrev pub sign_at : Option ℕ → ℕ → ℕ
 sign_at None glyph = glyph
 sign_at (Some place) glyph = slice_index their_signs place

@@ -3,12 +3,12 @@
 ghost use Rattle.std.specs.Prelude.{◌≡◌, ◌≤◌, ◌++◌, ◌==◌, ◌+◌, ℕ, [], length, position, unwrap_or, IfErr, IfOk, IfSome, OnOk};
 ghost use Rattle.core_store.specs.Storage.{blank_storage, largest_size};
 ghost use Rattle.machine.specs.{
-  Run.{after, attempts, lines_of, step},
+  Run.{after, attempts, is_running, lines_of, step},
 };
 ghost use Rattle.films.specs.{
   Changes.{items_since},
   Frames.{cards_before, cards_of, lines_before, shown_of},
-  Steps.{Fits, IsHindered, change_lines},
+  Steps.{Fits, IsHindered, change_lines, most_bytes},
   Texts.{change_line, first_line, item_texts, step_line},
   Worked.{fields_spans, instruction_span, place_of},
 };
@@ -78,6 +78,14 @@ fn push_step_line<C: Core>(
     Ok(())
 }
 
+/// Makes a storage the same as a machine's.
+fn keep<C: Core>(storage: &mut C, parts: &Parts<C>)
+    requires { length (C.cells storage.old) ≡ length parts.now.works.storage }
+    ensures { C.cells storage.new ≡ parts.now.works.storage }
+{
+    storage.copy_from(&parts.core);
+}
+
 /// Makes a step of a machine that was shown with this storage, and adds its line.
 fn push_step<C: Core>(
     out: &mut Vec<u8>,
@@ -99,11 +107,12 @@ fn push_step<C: Core>(
     let parts = machine.parts();
     push_step_line(out, place, shown, storage, parts)?;
     *shown = Shown::of(parts);
-    storage.copy_from(&parts.core);
+    keep(storage, parts);
     Ok(())
 }
 
-/// Adds the line of the first frame of a machine, from this number of its lines and of its cards on.
+/// Adds the line of the first frame of a machine, from this number of its lines and of its cards
+/// on.
 #[tactic(auto, unfolding(crate::specs::Texts::change_line))]
 fn push_first_line<C: Core>(
     out: &mut Vec<u8>,
@@ -161,6 +170,13 @@ fn push_first<C: Core>(out: &mut Vec<u8>, parts: &Parts<C>, blank: &C) -> Result
     push_first_line(out, parts, blank, lines, cards)
 }
 
+/// Whether a machine runs.
+fn runs<C: Core>(parts: &Parts<C>) -> bool
+    ensures { result ≡ is_running parts.now.standing }
+{
+    parts.standing.is_running()
+}
+
 /// Makes the steps of a film whose first frame was added, at most so many, and adds their lines.
 /// Returns how many were made.
 fn push_steps<C: Core>(
@@ -175,11 +191,12 @@ fn push_steps<C: Core>(
     ensures machine { OnOk result (machine.new ≡ after machine.old limit) }
     ensures steps { IfOk result (λ steps. steps ≡ attempts machine.old limit) }
     ensures lines { IfOk result (λ steps. out.new.items ≡ change_lines machine.old steps) }
+    ensures short { OnOk result (length out.new.items ≤ most_bytes) }
     ensures too_long { IfErr result (IsHindered machine.old (attempts machine.old limit)) }
 {
     let mut shown = Shown::of(machine.parts());
     for made in 0..limit {
-        if !machine.parts().standing.is_running() {
+        if !runs(machine.parts()) {
             return Ok(made);
         }
         push_step(out, machine, &mut shown, storage)?;
@@ -203,6 +220,7 @@ pub(crate) fn push_changes<C: Core>(
     ensures machine { OnOk result (machine.new ≡ after machine.old limit) }
     ensures steps { IfOk result (λ steps. steps ≡ attempts machine.old limit) }
     ensures lines { IfOk result (λ steps. out.new.items ≡ change_lines machine.old steps) }
+    ensures short { OnOk result (length out.new.items ≤ most_bytes) }
     ensures too_long { IfErr result (IsHindered machine.old (attempts machine.old limit)) }
 {
     push_first(out, machine.parts(), storage)?;

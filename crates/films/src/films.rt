@@ -8,7 +8,7 @@ ghost use Rattle.machine.specs.{
   Run.{State, after, attempts, loaded, most_instructions},
 };
 ghost use Rattle.films.specs.{
-  Films.{IsFilm, IsHinderedAt, end_cause, most_steps, passed_over, text_before},
+  Films.{IsFilm, IsHinderedAt, end_cause, most_steps, passed_over, rest_of, text_before},
   declared.films.FilmError.TheVariants.{NoMemory},
 };
 
@@ -82,6 +82,22 @@ impl FilmOptions {
         self.count
             .min(MOST_INSTRUCTIONS.saturating_sub(self.passed_over()))
     }
+
+    /// How many steps come behind those of the film, to the end of a whole run.
+    fn steps_behind(self) -> u32
+        ensures { result ≡ rest_of self }
+    {
+        MOST_INSTRUCTIONS
+            .saturating_sub(self.passed_over())
+            .saturating_sub(self.most_steps())
+    }
+}
+
+/// How many cards a machine has read.
+fn cards_read<C: Core>(parts: &Parts<C>) -> u16
+    ensures { result ≡ parts.now.works.units.hopper.taken }
+{
+    parts.units.hopper.taken
 }
 
 /// Does so many steps. Returns how many instructions were attempted.
@@ -127,8 +143,9 @@ impl Film {
     {
         let mut machine = load(alloc, deck, size, switches)?;
         let mut storage = PlaneCore::blank(alloc, size)?;
-        let made = advance(&mut machine, options.passed_over())?;
-        let taken = machine.parts().units.hopper.taken;
+        let passed = options.passed_over();
+        let made = advance(&mut machine, passed)?;
+        let taken = cards_read(machine.parts());
         let mut changes = Vec::new(alloc);
         let limit = options.most_steps();
         let steps = push_changes(&mut changes, &mut machine, &mut storage, limit)?;
@@ -137,7 +154,7 @@ impl Film {
         let cause = end_cause(parts);
         let mut text = text_before(alloc, parts, names, made, taken)?;
         text.extend_from_slice(&changes)?;
-        let rest = MOST_INSTRUCTIONS - options.passed_over() - limit;
+        let rest = options.steps_behind();
         let more = advance(&mut machine, rest)?;
         Ok(Film {
             text,

@@ -1,6 +1,6 @@
 //! What differs between two frames.
 
-ghost use Rattle.std.specs.Prelude.{◌≡◌, ◌<◌, ◌≤◌, ◌++◌, length, OnOk};
+ghost use Rattle.std.specs.Prelude.{◌≡◌, ◌<◌, ◌≤◌, ◌++◌, drop, length, OnOk};
 ghost use Rattle.std.specs.List.{flat_map};
 ghost use Rattle.core_store.specs.Storage.{cell_at};
 ghost use Rattle.machine.specs.Run.{lines_of};
@@ -169,6 +169,31 @@ impl Shown {
     }
 }
 
+/// Adds the words for the positions of a machine whose contents are others than before.
+fn push_storage<C: Core>(out: &mut Vec<u8>, storage: &C, parts: &Parts<C>) -> Result<(), AllocError>
+    requires { length (C.cells storage.now) ≡ length parts.now.works.storage }
+    ensures { OnOk result (out.new.items ≡ out.old.items
+        ++ items_text (cell_items (C.cells storage.now) parts.now.works.storage)) }
+{
+    push_cells(out, storage, &parts.core)
+}
+
+/// The lines of a machine from this number on, from 0.
+fn lines_from<C: Core>(parts: &Parts<C>, first: usize) -> &[Line]
+    requires { first ≤ length (lines_of parts.now) }
+    ensures { result.now ≡ drop first (lines_of parts.now) }
+{
+    &parts.units.printer.lines[first..]
+}
+
+/// The cards of a machine from this number on, from 0.
+fn cards_from<C: Core>(parts: &Parts<C>, first: usize) -> &[Punched]
+    requires { first ≤ length (cards_of parts.now) }
+    ensures { result.now ≡ drop first (cards_of parts.now) }
+{
+    &parts.units.punch.cards[first..]
+}
+
 /// Adds the words for what a machine has that was not shown, and that its storage has in place of
 /// this one.
 pub(crate) fn push_items<C: Core>(
@@ -185,7 +210,7 @@ pub(crate) fn push_items<C: Core>(
         (C.cells storage.now) parts.now)) }
 {
     push_numbers(out, &shown.numbers, &numbers_of(parts))?;
-    push_lines(out, &parts.units.printer.lines[shown.lines..])?;
-    push_cards(out, &parts.units.punch.cards[shown.cards..])?;
-    push_cells(out, storage, &parts.core)
+    push_lines(out, lines_from(parts, shown.lines))?;
+    push_cards(out, cards_from(parts, shown.cards))?;
+    push_storage(out, storage, parts)
 }

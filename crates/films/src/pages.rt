@@ -66,7 +66,8 @@ fn push_steps(out: &mut Vec<u8>, made: u32, steps: u32) -> Result<(), AllocError
         return out.extend_from_slice(b". No instruction of ");
     }
     push_number_between(out, b". Instructions ", made as usize + 1, b" to ")?;
-    push_number_between(out, b"", made as usize + steps as usize, b" of ")
+    push_decimal(out, made as usize + steps as usize)?;
+    out.extend_from_slice(b" of ")
 }
 
 /// Adds how many instructions the run has, and how it ended.
@@ -136,7 +137,6 @@ fn push_film(out: &mut Vec<u8>, text: &[u8]) -> Result<(), AllocError>
 
 /// Returns the page of a film, an HTML file that stands alone: the text of the film, and a script
 /// that shows it step by step. Fails only if there is no memory.
-#[tactic(auto, unfolding(crate::specs::Pages::page_of))]
 pub fn film_page(alloc: Global, subject: &Subject<'_>, film: &Film) -> Result<Vec<u8>, AllocError>
     ensures { IfOk result (λ page. page.items ≡ page_of subject.now film.now) }
 {

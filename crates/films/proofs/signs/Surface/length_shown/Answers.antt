@@ -1,4 +1,4 @@
-use Rattle.std.proofs.Common.{◌∙◌, sym, ap, arith}
+use Rattle.std.proofs.Common.{arith}
 use Rattle.films.specs.Signs.{glyph_on}
 use Rattle.films.proofs.SignLemmas.{blank_more, cut_here, cut_is}
 use Rattle.films.proofs.signs.Surface.length_shown.Goals as goal
