@@ -27,3 +27,6 @@ pub mod FaultOrder
 pub mod FaultTests
 pub mod CardFaults
 pub mod SourceFaults
+pub mod StatementLemmas
+pub mod StatementLaw
+pub mod FoundLaw

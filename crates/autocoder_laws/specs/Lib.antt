@@ -10,3 +10,4 @@ pub mod OperandFields
 pub mod Cards
 pub mod Needs
 pub mod Faults
+pub mod Disassembly

@@ -17,6 +17,10 @@
 //! mnemonic as the operation that the mnemonic means, in the form of their length, and in reading
 //! them can refuse them only for an address. By [`operands_are_read`] it reads their addresses as the positions
 //! that the card's operands mean.
+//!
+//! **Back.** By [`statements_are_exact`] the assembler makes of the statement that an instruction's
+//! characters have (`disassembly`) just these characters, and what it makes of operands that are
+//! numbers has a statement.
 #![tactic(auto)]
 
 mod constants;
@@ -27,6 +31,7 @@ mod numbers;
 mod operand_fields;
 mod operands;
 mod source_cards;
+mod statements;
 
 pub use constants::constants_are_read;
 pub use expressions::expressions_are_read;
@@ -36,3 +41,4 @@ pub use numbers::numbers_are_read;
 pub use operand_fields::operand_fields_are_read;
 pub use operands::operands_are_read;
 pub use source_cards::cards_are_read;
+pub use statements::statements_are_exact;

@@ -1,13 +1,11 @@
 //! The heading that a source gives itself.
 
 ghost use Rattle.std.specs.Prelude.{◌≡◌, option_copied, option_map, IfOk};
-ghost use Rattle.autocoder_layout.specs.Source.{source_of};
 ghost use Rattle.job_pages.specs.Headings.{HasHeading, is_job, job_card};
 
 use autocoder::push_glyphs;
-use autocoder_layout::source_of;
 use autocoder_statements::{Operation, operand_field, operation_of};
-use cards::{Card, Deck};
+use cards::Card;
 use std::alloc::{AllocError, Global};
 
 /// Whether a card is a JOB card.
@@ -25,15 +23,15 @@ fn job_card(cards: &[Card]) -> Option<&Card>
     cards.iter().find(|card| is_job(card))
 }
 
-/// Returns what the source that a deck begins with gives as its heading: the text of its first JOB
-/// card, without the blanks at its end; none if it has no such card.
+/// Returns what the cards of a source give as its heading: the text of the first JOB card, without
+/// the blanks at its end; none if there is no such card.
 ///
 /// Fails only if there is no memory.
-pub fn heading_of(alloc: Global, deck: &Deck) -> Result<Option<Vec<u8>>, AllocError>
+pub fn heading_of(alloc: Global, source: &[Card]) -> Result<Option<Vec<u8>>, AllocError>
     ensures { IfOk result (λ heading.
-        HasHeading (source_of deck.now) (option_map (λ text. text.items) heading)) }
+        HasHeading source.now (option_map (λ text. text.items) heading)) }
 {
-    let Some(card) = job_card(source_of(deck.cards())) else {
+    let Some(card) = job_card(source) else {
         return Ok(None);
     };
     let mut text = Vec::new(alloc);

@@ -47,15 +47,15 @@ impl Names {
         }
     }
 
-    /// The cards of the source.
-    pub(crate) fn cards(&self) -> &[Card]
+    /// Returns the cards of the source, up to END.
+    pub fn cards(&self) -> &[Card]
         ensures { result.now ≡ self.now.cards }
     {
         source_of(self.deck.cards())
     }
 
-    /// What each card defines and where it stands.
-    pub(crate) fn slots(&self) -> &[Slot]
+    /// Returns what each card of the source defines, and where it stands.
+    pub fn slots(&self) -> &[Slot]
         ensures { result.now ≡ self.now.slots }
     {
         self.program.slots()

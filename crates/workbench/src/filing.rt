@@ -3,8 +3,9 @@
 use crate::drawing::title_or_name;
 use crate::process::Process;
 use crate::undone::Undone;
+use autocoder_layout::source_of;
 use autocoder_listings::Width;
-use cards::Deck;
+use cards::{Card, Deck};
 use command_line::Status;
 use job_pages::{JobPageError, Subject, heading_of, job_page};
 use source_reports::Report;
@@ -21,15 +22,21 @@ fn show_faults<W: Write, E: Write>(
     process.print(&report.text, Status::NotDone)
 }
 
-/// What the page of a source is called where no title is given: what its JOB card says, if that is
-/// something, else the name of its file.
-fn name_of(alloc: Global, path: &str, source: &Deck) -> Result<Vec<u8>, AllocError> {
-    if let Some(heading) = heading_of(alloc, source)?
+/// What a page is called: its title if one is given, else what the JOB card of a source says, if
+/// that is something, else the name of a file.
+pub(crate) fn name_of(
+    alloc: Global,
+    title: Option<&str>,
+    source: &[Card],
+    path: &str,
+) -> Result<Vec<u8>, AllocError> {
+    if title.is_none()
+        && let Some(heading) = heading_of(alloc, source)?
         && !heading.is_empty()
     {
         return Ok(heading);
     }
-    title_or_name(None, path).as_bytes().to_vec(alloc)
+    title_or_name(title, path).as_bytes().to_vec(alloc)
 }
 
 /// Writes the page of a job: of a source that is assembled and run.
@@ -41,13 +48,9 @@ pub(crate) fn write_page<W: Write, E: Write>(
 ) -> Result<Status, Undone> {
     let path = setup.input;
     let deck = process.deck_at(path)?;
-    let heading = name_of(process.alloc(), path, &deck)?;
-    let name = match title {
-        Some(title) => title.as_bytes(),
-        None => heading.as_slice(),
-    };
+    let name = name_of(process.alloc(), title, source_of(deck.cards()), path)?;
     let subject = Subject {
-        name,
+        name: &name,
         source: &deck,
         size: setup.size,
         switches: setup.switches,

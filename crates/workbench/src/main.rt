@@ -9,12 +9,14 @@
 
 mod benching;
 mod characters;
+mod coding;
 mod converting;
 mod cutting;
 mod decks;
 mod drawing;
 mod files;
 mod filing;
+mod filming;
 mod folders;
 mod intake;
 mod listing;
@@ -29,10 +31,12 @@ mod talking;
 mod undone;
 
 use crate::benching::{dump_deck, profile_deck, trace_deck};
+use crate::coding::write_code;
 use crate::converting::convert;
 use crate::cutting::cut_deck;
 use crate::drawing::{draw_card, draw_deck, draw_pages};
 use crate::filing::write_page;
+use crate::filming::write_film;
 use crate::intake::take_in;
 use crate::listing::{compare_decks, list_deck};
 use crate::manifests::{Listing, manifest};
@@ -107,6 +111,8 @@ fn work<W: Write, E: Write>(
             title,
         } => draw_pages(process, (listing, out), *title),
         Task::Page { setup, out, title } => write_page(process, *setup, out, *title),
+        Task::Film(filming) => write_film(process, *filming),
+        Task::Code(coding) => write_code(process, *coding),
     }
 }
 

@@ -130,5 +130,22 @@ workbench = record {
             ∷ (codes "OUT", Value) ∷ (codes "title", Setting) ∷ [],
         codes "page SOURCE SIZE SWITCHES OUT [--title TEXT]",
       )
+      ∷ (
+        name.Film,
+        codes "film",
+        (codes "DECK", Value) ∷ (codes "SIZE", Value) ∷ (codes "SWITCHES", Value)
+            ∷ (codes "OUT", Value) ∷ (codes "names", Setting) ∷ (codes "from", Setting)
+            ∷ (codes "last", Setting) ∷ (codes "count", Setting) ∷ (codes "title", Setting) ∷ [],
+        codes "film DECK SIZE SWITCHES OUT [--names SOURCE] [--from N] [--last N] "
+            ++ codes "[--count N] [--title TEXT]",
+      )
+      ∷ (
+        name.Code,
+        codes "code",
+        (codes "DECK", Value) ∷ (codes "SIZE", Value) ∷ (codes "OUT", Further)
+            ∷ (codes "names", Setting) ∷ (codes "after", Setting) ∷ (codes "run", Flag)
+            ∷ (codes "numbers", Flag) ∷ [],
+        codes "code DECK SIZE [OUT] [--names SOURCE] [--after N] [--run] [--numbers]",
+      )
       ∷ [];
 }

@@ -22,7 +22,7 @@ use Rattle.workbench_arguments.specs.declared.tasks.Ends.{Ends}
 use Rattle.workbench_arguments.specs.declared.tasks.Ends.TheVariants.{Places, Numbers}
 use Rattle.workbench_arguments.specs.declared.tasks.Setup.{Setup}
 use Rattle.workbench_arguments.specs.declared.tasks.Task.{Task}
-use Rattle.workbench_arguments.specs.declared.tasks.Task.TheVariants.{Show, Punch, List as ListCards, Compare, Convert, Cut, Number, CheckNumbers, Source, Manifest, Trace, Dump, Profile, Console, Card, Deck, Pages, Page, Intake}
+use Rattle.workbench_arguments.specs.declared.tasks.Task.TheVariants.{Show, Punch, List as ListCards, Compare, Convert, Cut, Number, CheckNumbers, Source, Manifest, Trace, Dump, Profile, Console, Card, Deck, Pages, Page, Film, Code, Intake}
 
 -- these are the columns of `--tabs`, or none where it is not given
 abbrev pub HasTabs : List Row → List ℕ → Type 0
@@ -220,6 +220,23 @@ WantsPage found (Page setup out title) =
     × MayHaveArgument (codes "title") found title
 WantsPage found other = ⊥
 
+-- the task of `film`: without `--from` and `--count` the instructions 1 to 2,000
+abbrev pub WantsFilm : List Row → Task → Type 0
+WantsFilm found (Film it) = IsSetup (codes "DECK") found it.setup
+    × HasArgument (codes "OUT") found it.out.now × MayHaveArgument (codes "names") found it.names
+    × HasNumber (codes "from") 1 found it.from × GivesNumber (codes "last") found it.last
+    × HasCount (codes "count") 2000 found it.count × MayHaveArgument (codes "title") found it.title
+WantsFilm found other = ⊥
+
+-- the task of `code`
+abbrev pub WantsCode : List Row → Task → Type 0
+WantsCode found (Code it) = HasArgument (codes "DECK") found it.deck.now
+    × HasArgument (codes "SIZE") found (decimal (positions_of it.size))
+    × MayHaveArgument (codes "OUT") found it.out × MayHaveArgument (codes "names") found it.names
+    × GivesCount (codes "after") found it.after × (it.runs ≡ has_flag (codes "run") found)
+    × (it.numbers ≡ has_flag (codes "numbers") found)
+WantsCode found other = ⊥
+
 -- the task of a subcommand, by what was found after its name
 abbrev pub WantsTask : Subcommand → List Row → Task → Type 0
 WantsTask name.Punch found task = WantsPunch found task
@@ -239,6 +256,8 @@ WantsTask name.Card found task = WantsCard found task
 WantsTask name.Deck found task = WantsDeck found task
 WantsTask name.Pages found task = WantsPages found task
 WantsTask name.Page found task = WantsPage found task
+WantsTask name.Film found task = WantsFilm found task
+WantsTask name.Code found task = WantsCode found task
 
 -- the task of what arguments can ask for
 abbrev pub IsTask : Wish Subcommand → Task → Type 0

@@ -6,12 +6,12 @@ ghost use Rattle.core_store.specs.Storage.{positions_of};
 ghost use Rattle.texts.specs.Switches.{text_of};
 ghost use Rattle.units.specs.Switches.{AreSeven};
 ghost use Rattle.workbench_arguments.specs.{
-  Tasks.{GivesCount, GivesNumber, HasCount, HasNumber, IsSetup, WantsConsole, WantsDump, WantsProfile, WantsTrace},
+  Tasks.{GivesCount, GivesNumber, HasCount, HasNumber, IsSetup, WantsCode, WantsConsole, WantsDump, WantsFilm, WantsProfile, WantsTrace},
   Values.{IsCount},
 };
 
 use crate::complaints::{NO_AFTER, NO_COUNT, NO_FIRST, NO_FROM, NO_LAST};
-use crate::tasks::{Dumping, Setup, Task, Tracing, number};
+use crate::tasks::{Coding, Dumping, Filming, Setup, Task, Tracing, number};
 use crate::values::count_of;
 use command_line::{Found, Mistake, SIZE_COMPLAINT, SWITCHES_COMPLAINT};
 use core_store::Size;
@@ -89,13 +89,13 @@ fn from_in(found: &Found<'_>) -> Result<u32, Mistake<'static>>
     number(text, NO_FROM)
 }
 
-/// The number of `--count`; 1,000 where it is not given.
-fn shown_in(found: &Found<'_>) -> Result<u32, Mistake<'static>>
+/// The number of `--count`; another one where it is not given.
+fn shown_in(found: &Found<'_>, other: u32) -> Result<u32, Mistake<'static>>
     ensures { IfOk result (λ count.
-        HasCount (codes "count") 1000 (given found.now) count) }
+        HasCount (codes "count") other (given found.now) count) }
 {
     let Some(text) = found.value("count") else {
-        return Ok(1000);
+        return Ok(other);
     };
     count(text, NO_COUNT)
 }
@@ -107,10 +107,40 @@ pub(crate) fn trace_task<'a>(found: &Found<'a>) -> Result<Task<'a>, Mistake<'sta
     Ok(Task::Trace(Tracing {
         setup: setup_in(found, "DECK")?,
         from: from_in(found)?,
-        count: shown_in(found)?,
+        count: shown_in(found, 1000)?,
         stop: found.value("stop"),
         names: found.value("names"),
         fields: found.has_flag("fields"),
+    }))
+}
+
+/// The task of a subcommand `film`.
+pub(crate) fn film_task<'a>(found: &Found<'a>) -> Result<Task<'a>, Mistake<'static>>
+    ensures { IfOk result (WantsFilm (given found.now)) }
+{
+    Ok(Task::Film(Filming {
+        setup: setup_in(found, "DECK")?,
+        out: found.needed("OUT")?,
+        names: found.value("names"),
+        from: from_in(found)?,
+        last: number_in(found, "last", NO_LAST)?,
+        count: shown_in(found, 2000)?,
+        title: found.value("title"),
+    }))
+}
+
+/// The task of a subcommand `code`.
+pub(crate) fn code_task<'a>(found: &Found<'a>) -> Result<Task<'a>, Mistake<'static>>
+    ensures { IfOk result (WantsCode (given found.now)) }
+{
+    Ok(Task::Code(Coding {
+        deck: found.needed("DECK")?,
+        size: size_in(found)?,
+        out: found.value("OUT"),
+        names: found.value("names"),
+        after: count_in(found, "after", NO_AFTER)?,
+        runs: found.has_flag("run"),
+        numbers: found.has_flag("numbers"),
     }))
 }
 

@@ -30,6 +30,8 @@ usage: workbench SUBCOMMAND ARGUMENTS.. [OPTIONS]
   deck DECK OUT [--title TEXT]          draws the cards of a deck on a page
   pages LISTING OUT [--title TEXT]      draws a listing as pages of paper
   page SOURCE SIZE SWITCHES OUT [..]    draws a job: source, run, what came out
+  film DECK SIZE SWITCHES OUT [..]      shows a run step by step, on a page
+  code DECK SIZE [OUT] [OPTIONS]        makes a source of what a deck loads
 
   workbench SUBCOMMAND --help           prints the help of one (or -h)
   workbench --help                      prints this text (or -h)
@@ -449,6 +451,59 @@ printed and punched, and the SHA-256 of each. It has no script and needs no
 other file.
 ";
 
+/// The text that `film --help` prints.
+pub const FILM_HELP: &str = "\
+workbench film DECK SIZE SWITCHES OUT [--names SOURCE] [--from N] [--last N]
+[--count N] [--title TEXT]: shows a run step by step, on a page (HTML).
+
+DECK, SIZE, SWITCHES  as trace --help has them
+OUT                   the page
+--names SOURCE        the Autocoder source of the deck: the card that is done is
+                      marked in it
+--from N              the first instruction that is shown, 1 without it
+--last N              begins N instructions before the end of the run, in place
+                      of --from: what came before a check
+--count N             how many are shown, 2,000 without it
+--title TEXT          what the page is called; without it the name of DECK
+
+example:
+  workbench film examples/sales_report.deck 1400 A sales.html \\
+      --names examples/sales_report.source
+
+The page shows the instruction that was done, registers and indicators, storage
+at the instruction and its fields with what changed, the paper, the card in the
+reader and the one punched last, and all storage. Keys: left and right, with
+shift by ten, Home, End, space, P for the program, U for the next card or line.
+It needs no other file. Without a script its data is there as text. It ends at
+the first halt or check, and has at most 4,000,000 bytes of changes.
+";
+
+/// The text that `code --help` prints.
+pub const CODE_HELP: &str = "\
+workbench code DECK SIZE [OUT] [--names SOURCE] [--after N] [--run] [--numbers]:
+makes an Autocoder source of what a deck loads, and prints it with its code.
+
+DECK            a deck text or a punch file
+SIZE            the positions of storage: 1400, 2000, 4000, 8000, 12000 or 16000
+OUT             the source, as a deck text, with the cards behind it that the
+                program has not read
+--names SOURCE  its names are those of another source of the same program
+--after N       the program is loaded after N instructions; without it when
+                control comes past 080 for the first time
+--run           the program is run, and what a run begins is an instruction too
+--numbers       addresses are numbers, and not labels
+
+example:
+  workbench code examples/sales_report.deck 1400 sales.source
+
+What control comes to, by the addresses as they stand, are instructions, and all
+else are constants: where a program changes its addresses, --run finds more.
+Before OUT is written the source is assembled, and must have the character and
+the word mark of each position from 081 on. An at sign that stands in no
+instruction, and what stands below 081, can be placed by no card: then OUT is
+not written, and the status is 1. Addresses within constants stay digits.
+";
+
 /// The text that `--version` prints.
 pub const VERSION: &str = version_of!("workbench");
 
@@ -475,5 +530,7 @@ pub(crate) fn page(subcommand: Option<Subcommand>) -> &'static str
         Some(Subcommand::Deck) => DECK_HELP,
         Some(Subcommand::Pages) => PAGES_HELP,
         Some(Subcommand::Page) => PAGE_HELP,
+        Some(Subcommand::Film) => FILM_HELP,
+        Some(Subcommand::Code) => CODE_HELP,
     }
 }

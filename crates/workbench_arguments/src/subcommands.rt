@@ -39,10 +39,14 @@ pub enum Subcommand {
     Pages,
     /// `page`.
     Page,
+    /// `film`.
+    Film,
+    /// `code`.
+    Code,
 }
 
 /// The subcommands.
-const SUBCOMMANDS: [Syntax<Subcommand>; 17] = [
+const SUBCOMMANDS: [Syntax<Subcommand>; 19] = [
     Syntax {
         subcommand: Subcommand::Punch,
         name: "punch",
@@ -240,6 +244,37 @@ const SUBCOMMANDS: [Syntax<Subcommand>; 17] = [
             ("title", Kind::Setting),
         ],
         usage: "page SOURCE SIZE SWITCHES OUT [--title TEXT]",
+    },
+    Syntax {
+        subcommand: Subcommand::Film,
+        name: "film",
+        arguments: &[
+            ("DECK", Kind::Value),
+            ("SIZE", Kind::Value),
+            ("SWITCHES", Kind::Value),
+            ("OUT", Kind::Value),
+            ("names", Kind::Setting),
+            ("from", Kind::Setting),
+            ("last", Kind::Setting),
+            ("count", Kind::Setting),
+            ("title", Kind::Setting),
+        ],
+        usage: "film DECK SIZE SWITCHES OUT [--names SOURCE] [--from N] [--last N] \
+             [--count N] [--title TEXT]",
+    },
+    Syntax {
+        subcommand: Subcommand::Code,
+        name: "code",
+        arguments: &[
+            ("DECK", Kind::Value),
+            ("SIZE", Kind::Value),
+            ("OUT", Kind::Further),
+            ("names", Kind::Setting),
+            ("after", Kind::Setting),
+            ("run", Kind::Flag),
+            ("numbers", Kind::Flag),
+        ],
+        usage: "code DECK SIZE [OUT] [--names SOURCE] [--after N] [--run] [--numbers]",
     },
 ];
 

@@ -13,7 +13,7 @@ ghost use Rattle.workbench_arguments.specs.{
   Values.{IsNumeral},
 };
 
-use crate::bench_tasks::{console_task, dump_task, profile_task, trace_task};
+use crate::bench_tasks::{code_task, console_task, dump_task, film_task, profile_task, trace_task};
 use crate::complaints::{
     NO_COLUMN, NO_EMPTY_LINE, NO_FIRST_NUMBER, NO_FORM, NO_FORM_READ, NO_FORM_WRITTEN,
     NO_LAST_NUMBER, NO_SIGNS, NO_STEP, NO_TABS, NO_WIDTH,
@@ -128,6 +128,44 @@ pub struct Tracing<'a> {
     pub names: Option<&'a str>,
     /// Whether the fields are printed that an instruction works at.
     pub fields: bool,
+}
+
+/// Which instructions of a run a film shows, and how.
+#[derive(Clone, Copy)]
+pub struct Filming<'a> {
+    /// What the machine begins with.
+    pub setup: Setup<'a>,
+    /// The path of the page.
+    pub out: &'a str,
+    /// The path of the source that has the names.
+    pub names: Option<&'a str>,
+    /// The number of the first instruction that is shown.
+    pub from: u32,
+    /// How many instructions before the end of the run it begins, in place of `from`, if it is given.
+    pub last: Option<u32>,
+    /// How many are shown.
+    pub count: u32,
+    /// The title of the page, if it is given.
+    pub title: Option<&'a str>,
+}
+
+/// How a source is made of what a deck loads.
+#[derive(Clone, Copy)]
+pub struct Coding<'a> {
+    /// The path of the deck.
+    pub deck: &'a str,
+    /// How many positions of storage the machine has.
+    pub size: Size,
+    /// The path of the source's deck, if it is to be written.
+    pub out: Option<&'a str>,
+    /// The path of a source whose names are taken.
+    pub names: Option<&'a str>,
+    /// How many instructions load the program, if it is not loaded once control comes past 080.
+    pub after: Option<u32>,
+    /// Whether it is run, and what a run begins is an instruction too.
+    pub runs: bool,
+    /// Whether positions are said by their numbers, and not by labels.
+    pub numbers: bool,
 }
 
 /// When a machine is shown, and how much of its storage.
@@ -257,6 +295,10 @@ pub enum Task<'a> {
         /// The title of the page, if it is given.
         title: Option<&'a str>,
     },
+    /// Show a run step by step on a page.
+    Film(Filming<'a>),
+    /// Make a source of what a deck loads.
+    Code(Coding<'a>),
 }
 
 /// The columns of `--tabs`; none where it is not given.
@@ -522,6 +564,8 @@ fn subcommand_task<'a>(
         Subcommand::Deck => deck_task(found),
         Subcommand::Pages => pages_task(found),
         Subcommand::Page => page_task(found),
+        Subcommand::Film => film_task(found),
+        Subcommand::Code => code_task(found),
     }
 }
 

@@ -1,7 +1,6 @@
 use Rattle.std.proofs.Common.{◌≡◌, ◌∙◌, ◌++◌, Some, option_copied, take, ap, sym, subst}
 use Rattle.std.specs.Str.{IsTrimAsciiEnd}
 use Rattle.autocoder.specs.Listing.{glyphs_of}
-use Rattle.autocoder_layout.specs.Source.{source_of}
 use Rattle.autocoder_statements.specs.Statements.{operand_field}
 use Rattle.job_pages.specs.Headings.{job_card}
 use Rattle.job_pages.proofs.headings.heading_of.Goals as goal
@@ -11,9 +10,7 @@ returns c =
     let card = c.in-Some.card.now in
     let line = c.push_glyphs.new.line.items in
     let trim = c.trim_ascii_end-length.ensures.value in
-    let cards : c.source_of.result.now ≡ source_of c.args.deck.now = c.source_of.ensures.source ∙ ap source_of c.cards.ensures.cards in
-    let found : job_card (source_of c.args.deck.now) ≡ Some card =
-    ap job_card (sym cards) ∙ sym c.job_card.ensures ∙ ap option_copied c.in-Some.is in
+    let found : job_card c.args.source.now ≡ Some card = sym c.job_card.ensures ∙ ap option_copied c.in-Some.is in
     let text : line ≡ glyphs_of (operand_field card) =
     c.in_ok-push_glyphs.ensures ∙ ap (λ before. before ++ glyphs_of c.operand_field.result.now) c.new-text.ensures.items ∙ ap glyphs_of c.operand_field.ensures.field in
     let cut : c.truncate.new.self.items ≡ c.trim_ascii_end-length.result.now =

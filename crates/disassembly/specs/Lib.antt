@@ -1,0 +1,4 @@
+pub mod Statements
+pub mod Texts
+pub mod Storage
+pub mod Sources

@@ -1,0 +1,12 @@
+mod SignTables
+mod SignLemmas
+mod ChangeLaw
+mod ItemLemmas
+mod SourceLemmas
+mod StepLemmas
+mod ItemsRead
+mod SignsRead
+mod TextsRead
+mod FilmLaw
+mod FilmLemmas
+mod RunLaw

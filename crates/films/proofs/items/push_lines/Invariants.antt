@@ -1,0 +1,8 @@
+use Rattle.std.proofs.Common.{◌≡◌, ◌++◌, take}
+use Rattle.std.specs.List.{flat_map}
+use Rattle.films.specs.Texts.{line_words}
+use Rattle.films.proofs.items.push_lines.Given as goal
+
+abbrev pub invariant-loop-line : goal.invariant-loop-line
+invariant-loop-line l =
+    l.out.items ≡ l.fn.out.items ++ flat_map line_words (take l.line-index l.lines)

@@ -1,0 +1,10 @@
+pub mod Signs
+pub mod Frames
+pub mod Changes
+pub mod Worked
+pub mod Texts
+pub mod Steps
+pub mod Reading
+pub mod Films
+pub mod Laws
+pub mod Pages
