@@ -3,8 +3,8 @@ use Rattle.std.proofs.Common.{◌≡◌, ℕ, suc, ◌+◌, ◌<◌, true, false
 use Rattle.std.proofs.Math.Seq.{drop-length}
 use Rattle.std.proofs.lemmas.List.{get_or_read}
 use Rattle.autocoder_statements.specs.Characters.{begins}
-use Rattle.autocoder_statements.specs.Mnemonics.{entry, orders, mnemonics}
-use Rattle.autocoder_statements.specs.declared.operations.TheConstants.{ORDERS, MNEMONICS}
+use Rattle.autocoder_statements.specs.Mnemonics.{entry, orders}
+use Rattle.autocoder_statements.specs.declared.operations.TheConstants.{ORDERS}
 
 met : {A : Type 0} (row : List ℕ × A) (rows : List (List ℕ × A)) (word : List ℕ) → begins row.0 word ≡ true → entry (row ∷ rows) word ≡ Some row.1
 unfolding entry
@@ -28,7 +28,3 @@ entry_ends table word = rw (drop-length table) refl
 pub orders_are : ORDERS ≡ orders
 unfolding orders
 orders_are = refl
-
-pub mnemonics_are : MNEMONICS ≡ mnemonics
-unfolding mnemonics
-mnemonics_are = refl

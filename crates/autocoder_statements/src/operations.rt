@@ -9,9 +9,8 @@ ghost use Rattle.autocoder_statements.specs.{
 };
 
 use crate::characters::begins;
-use crate::modifiers::Modifiers;
-use crate::operand_forms::{OperandForm, OperandForms};
-use crate::operand_kinds::OperandKind;
+use crate::mnemonics::mnemonics;
+use crate::operand_forms::OperandForms;
 use crate::operands::Operand;
 use bcd::Code;
 
@@ -77,157 +76,6 @@ const ORDERS: [([u8; LONGEST_OPERATION], Operation); 8] = [
     (*b"END  ", Operation::End),
 ];
 
-/// Two fields.
-const FIELDS: OperandForm = OperandForm::Two(OperandKind::Field, OperandKind::Field);
-
-/// A field.
-const FIELD: OperandForm = OperandForm::One(OperandKind::Field);
-
-/// A branch address.
-const PLACE: OperandForm = OperandForm::One(OperandKind::Branch);
-
-/// An empty field.
-const NONE: OperandForms = OperandForms {
-    form: OperandForm::Empty,
-    other: None,
-    third: None,
-};
-
-/// A branch address.
-const BRANCH: OperandForms = OperandForms {
-    form: PLACE,
-    ..NONE
-};
-
-/// An empty field, or a branch address.
-const NONE_OR_BRANCH: OperandForms = OperandForms {
-    other: Some(PLACE),
-    ..NONE
-};
-
-/// An empty field, or two fields.
-const NONE_OR_TWO: OperandForms = OperandForms {
-    other: Some(FIELDS),
-    ..NONE
-};
-
-/// An empty field, a field, or two fields.
-const NONE_ONE_OR_TWO: OperandForms = OperandForms {
-    other: Some(FIELD),
-    third: Some(FIELDS),
-    ..NONE
-};
-
-/// A field, or two fields.
-const ONE_OR_TWO: OperandForms = OperandForms {
-    form: FIELD,
-    other: Some(FIELDS),
-    ..NONE
-};
-
-/// A field.
-const ONE: OperandForms = OperandForms {
-    form: FIELD,
-    ..NONE
-};
-
-/// Two fields.
-const TWO: OperandForms = OperandForms {
-    form: FIELDS,
-    ..NONE
-};
-
-/// An empty field, a field, or a branch address and a field.
-const CLEAR: OperandForms = OperandForms {
-    other: Some(FIELD),
-    third: Some(OperandForm::Two(OperandKind::Branch, OperandKind::Field)),
-    ..NONE
-};
-
-/// A branch address and a sense switch.
-const SWITCH: OperandForms = OperandForms {
-    form: OperandForm::OneAndModifier(OperandKind::Branch, Modifiers::Switches),
-    ..NONE
-};
-
-/// A branch address, a field and a character.
-const CHARACTER: OperandForms = OperandForms {
-    form: OperandForm::TwoAndModifier(OperandKind::Branch, OperandKind::Field, Modifiers::Any),
-    ..NONE
-};
-
-/// A branch address, a field and a test of it.
-const ZONE: OperandForms = OperandForms {
-    form: OperandForm::TwoAndModifier(
-        OperandKind::Branch,
-        OperandKind::Field,
-        Modifiers::ZonesAndMarks,
-    ),
-    ..NONE
-};
-
-/// A branch address and a field.
-const MARK: OperandForms = OperandForms {
-    form: OperandForm::Two(OperandKind::Branch, OperandKind::Field),
-    ..NONE
-};
-
-/// An order to the carriage.
-const CARRIAGE: OperandForms = OperandForms {
-    form: OperandForm::Modifier(Modifiers::Carriage),
-    ..NONE
-};
-
-/// A pocket of the punch.
-const POCKET: OperandForms = OperandForms {
-    form: OperandForm::Modifier(Modifiers::Pockets),
-    ..NONE
-};
-
-/// The mnemonics: name, operation, the fixed last character, forms of the operand field.
-const MNEMONICS: [([u8; LONGEST_OPERATION], (u8, Option<u8>, OperandForms)); 40] = [
-    (*b"A    ", (b'A', None, NONE_ONE_OR_TWO)),
-    (*b"S    ", (b'S', None, NONE_ONE_OR_TWO)),
-    (*b"ZA   ", (b'?', None, NONE_ONE_OR_TWO)),
-    (*b"ZS   ", (b'!', None, NONE_ONE_OR_TWO)),
-    (*b"MCW  ", (b'M', None, NONE_OR_TWO)),
-    (*b"LCA  ", (b'L', None, NONE_OR_TWO)),
-    (*b"MN   ", (b'D', None, NONE_OR_TWO)),
-    (*b"MZ   ", (b'Y', None, NONE_OR_TWO)),
-    (*b"MCS  ", (b'Z', None, NONE_OR_TWO)),
-    (*b"MCE  ", (b'E', None, NONE_OR_TWO)),
-    (*b"C    ", (b'C', None, NONE_OR_TWO)),
-    (*b"MA   ", (b'#', None, TWO)),
-    (*b"SW   ", (b',', None, ONE_OR_TWO)),
-    (*b"CW   ", (b')', None, ONE_OR_TWO)),
-    (*b"CS   ", (b'/', None, CLEAR)),
-    (*b"B    ", (b'B', None, BRANCH)),
-    (*b"BLC  ", (b'B', Some(b'A'), BRANCH)),
-    (*b"BCV  ", (b'B', Some(b'@'), BRANCH)),
-    (*b"BU   ", (b'B', Some(b'/'), BRANCH)),
-    (*b"BE   ", (b'B', Some(b'S'), BRANCH)),
-    (*b"BL   ", (b'B', Some(b'T'), BRANCH)),
-    (*b"BH   ", (b'B', Some(b'U'), BRANCH)),
-    (*b"BAV  ", (b'B', Some(b'Z'), BRANCH)),
-    (*b"BSS  ", (b'B', None, SWITCH)),
-    (*b"BCE  ", (b'B', None, CHARACTER)),
-    (*b"BWZ  ", (b'V', None, ZONE)),
-    (*b"BW   ", (b'V', Some(b'1'), MARK)),
-    (*b"R    ", (b'1', None, NONE_OR_BRANCH)),
-    (*b"W    ", (b'2', None, NONE_OR_BRANCH)),
-    (*b"WR   ", (b'3', None, NONE_OR_BRANCH)),
-    (*b"P    ", (b'4', None, NONE_OR_BRANCH)),
-    (*b"RP   ", (b'5', None, NONE_OR_BRANCH)),
-    (*b"WP   ", (b'6', None, NONE_OR_BRANCH)),
-    (*b"WRP  ", (b'7', None, NONE_OR_BRANCH)),
-    (*b"CC   ", (b'F', None, CARRIAGE)),
-    (*b"SS   ", (b'K', None, POCKET)),
-    (*b"H    ", (b'.', None, NONE_OR_BRANCH)),
-    (*b"SBR  ", (b'H', None, ONE)),
-    (*b"SAR  ", (b'Q', None, ONE)),
-    (*b"NOP  ", (b'N', None, NONE)),
-];
-
 /// Whether a word is this name.
 fn is_named(word: &[Code], name: [u8; LONGEST_OPERATION]) -> bool
     ensures { result ≡ begins name word.now }
@@ -259,7 +107,7 @@ fn order_named(word: &[Code]) -> Option<Operation>
 fn row_named(word: &[Code]) -> Option<(u8, Option<u8>, OperandForms)>
     ensures { result ≡ entry mnemonics word.now }
 {
-    entry(&MNEMONICS, word)
+    entry(mnemonics(), word)
 }
 
 /// The operation that a word of five characters names.

@@ -18,7 +18,7 @@ use crate::watching::{cells_differ, watched_cell};
 use cards::Deck;
 use core_store::{Core, PlaneCore, Size};
 use machine::{Machine, Meter, Parts, Standing};
-use run_traces::{Names, load, push_attempt};
+use run_traces::{Names, advance, load, push_attempt};
 use std::alloc::{AllocError, Global};
 use units::Switches;
 
@@ -124,14 +124,6 @@ pub(crate) fn push_attempts<C: Core>(
         push_attempt(alloc, text, machine, names, made + count + 1)?;
     }
     Ok(limit)
-}
-
-/// Does so many steps.
-fn advance<C: Core>(machine: &mut Machine<C>, count: u32) -> Result<(), AllocError>
-    ensures { OnOk result (machine.new ≡ after machine.old count) }
-{
-    machine.run(count, &mut Meter::new())?;
-    Ok(())
 }
 
 /// Presses the start button, with these switches.

@@ -20,7 +20,6 @@ mod flows;
 mod instructions;
 mod labels;
 mod laws;
-mod mnemonics;
 mod names;
 mod operands;
 mod parts;

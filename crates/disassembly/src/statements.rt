@@ -4,10 +4,9 @@ ghost use Rattle.std.specs.Prelude.{◌≡◌};
 ghost use Rattle.autocoder_statements.specs.Mnemonics.{or_else};
 ghost use Rattle.disassembly.specs.Statements.{in_form, in_form_if, in_forms, of_row, of_rows, said, said_before, statement_of};
 
-use crate::mnemonics::{Row, mnemonics};
 use crate::parts::{address, is_own_last, last};
 use addresses::Tagged;
-use autocoder_statements::OperandForm;
+use autocoder_statements::{MnemonicRow, OperandForm, mnemonics};
 use bcd::Code;
 
 /// An instruction of the machine as a statement of Autocoder.
@@ -24,7 +23,12 @@ pub struct Statement {
 }
 
 /// The statement of a row's mnemonic with these parts.
-fn said(row: &Row, first: Option<Tagged>, second: Option<Tagged>, last: Option<Code>) -> Statement
+fn said(
+    row: &MnemonicRow,
+    first: Option<Tagged>,
+    second: Option<Tagged>,
+    last: Option<Code>,
+) -> Statement
     ensures { result ≡ said row.now first second last }
 {
     Statement {
@@ -38,7 +42,7 @@ fn said(row: &Row, first: Option<Tagged>, second: Option<Tagged>, last: Option<C
 /// The statement with these addresses, if the rest is the mnemonic's own last character, or
 /// nothing.
 fn said_before(
-    row: &Row,
+    row: &MnemonicRow,
     first: Option<Tagged>,
     second: Option<Tagged>,
     text: &[Code],
@@ -54,7 +58,7 @@ fn said_before(
 
 /// The statement of a row's mnemonic that has these characters behind its operation, in a form.
 #[tactic(auto, unfolding(crate::specs::Statements::in_form))]
-fn in_form(row: &Row, form: OperandForm, text: &[Code]) -> Option<Statement>
+fn in_form(row: &MnemonicRow, form: OperandForm, text: &[Code]) -> Option<Statement>
     ensures { result ≡ in_form row.now form text.now }
 {
     match form {
@@ -89,7 +93,7 @@ fn in_form(row: &Row, form: OperandForm, text: &[Code]) -> Option<Statement>
 }
 
 /// The statement in a form, if there is a form.
-fn in_form_if(row: &Row, form: Option<OperandForm>, text: &[Code]) -> Option<Statement>
+fn in_form_if(row: &MnemonicRow, form: Option<OperandForm>, text: &[Code]) -> Option<Statement>
     ensures { result ≡ in_form_if row.now form text.now }
 {
     in_form(row, form?, text)
@@ -97,7 +101,7 @@ fn in_form_if(row: &Row, form: Option<OperandForm>, text: &[Code]) -> Option<Sta
 
 /// The statement in one of the forms of a row's mnemonic.
 #[tactic(auto, unfolding(crate::specs::Statements::in_forms))]
-fn in_forms(row: &Row, text: &[Code]) -> Option<Statement>
+fn in_forms(row: &MnemonicRow, text: &[Code]) -> Option<Statement>
     ensures { result ≡ in_forms row.now text.now }
 {
     let (_, (_, _, forms)) = row;
@@ -112,7 +116,7 @@ fn in_forms(row: &Row, text: &[Code]) -> Option<Statement>
 
 /// The statement of a row's mnemonic that has these characters.
 #[tactic(auto, unfolding(crate::specs::Statements::of_row))]
-fn of_row(row: &Row, word: &[Code]) -> Option<Statement>
+fn of_row(row: &MnemonicRow, word: &[Code]) -> Option<Statement>
     ensures { result ≡ of_row row.now word.now }
 {
     let [code, text @ ..] = word else {
@@ -134,7 +138,7 @@ fn later_or(later: Option<Statement>, earlier: Option<Statement>) -> Option<Stat
 
 /// The statement of the last of these rows that has one with these characters.
 #[tactic(auto, unfolding(crate::specs::Statements::of_rows))]
-fn of_rows(rows: &[Row], word: &[Code]) -> Option<Statement>
+fn of_rows(rows: &[MnemonicRow], word: &[Code]) -> Option<Statement>
     ensures { result ≡ of_rows rows.now word.now }
 {
     let mut found = None;

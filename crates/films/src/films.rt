@@ -17,8 +17,8 @@ use crate::readers::{push_deck, push_names, push_size};
 use cards::Deck;
 use check_causes::{Cause, cause_of};
 use core_store::{Core, PlaneCore, Size};
-use machine::{MOST_INSTRUCTIONS, Machine, Meter, Parts, Report, StandingAt};
-use run_traces::{Names, load};
+use machine::{MOST_INSTRUCTIONS, Parts, Report, StandingAt};
+use run_traces::{Names, advance, load};
 use std::alloc::{AllocError, Global};
 use units::Switches;
 
@@ -98,16 +98,6 @@ fn cards_read<C: Core>(parts: &Parts<C>) -> u16
     ensures { result ≡ parts.now.works.units.hopper.taken }
 {
     parts.units.hopper.taken
-}
-
-/// Does so many steps. Returns how many instructions were attempted.
-fn advance<C: Core>(machine: &mut Machine<C>, count: u32) -> Result<u32, AllocError>
-    ensures machine { OnOk result (machine.new ≡ after machine.old count) }
-    ensures attempts { IfOk result (λ made. made ≡ attempts machine.old count) }
-{
-    let mut meter = Meter::new();
-    machine.run(count, &mut meter)?;
-    Ok(meter.ticks() as u32)
 }
 
 /// The cause of the check that a machine is at, if it is at one.

@@ -1,7 +1,7 @@
 //! How far a run goes.
 
 ghost use Rattle.std.specs.Prelude.{◌≡◌, ◌<◌, length, None, IfOk, OnOk};
-ghost use Rattle.machine.specs.Run.{after, loaded};
+ghost use Rattle.machine.specs.Run.{after, attempts, loaded};
 ghost use Rattle.run_traces.specs.Ends.{end_of, goes_on, stands_at};
 ghost use Rattle.units.specs.declared.profiles.Profile.TheVariants.{Selecting};
 
@@ -28,12 +28,15 @@ pub(crate) fn goes_on<C: Core>(parts: &Parts<C>, stop: Option<u16>) -> bool
     parts.standing.is_running() && !stands_at(parts, stop)
 }
 
-/// Does so many steps.
-pub(crate) fn advance<C: Core>(machine: &mut Machine<C>, count: u32) -> Result<(), AllocError>
-    ensures { OnOk result (machine.new ≡ after machine.old count) }
+/// Does so many steps. Returns how many instructions were attempted: none where the machine does
+/// not run. Fails only if there is no memory.
+pub fn advance<C: Core>(machine: &mut Machine<C>, count: u32) -> Result<u32, AllocError>
+    ensures machine { OnOk result (machine.new ≡ after machine.old count) }
+    ensures attempts { IfOk result (λ made. made ≡ attempts machine.old count) }
 {
-    machine.run(count, &mut Meter::new())?;
-    Ok(())
+    let mut meter = Meter::new();
+    machine.run(count, &mut meter)?;
+    Ok(meter.ticks() as u32)
 }
 
 /// Does so many attempts at most, and none that begins at the stop. Returns how many were made.
@@ -62,9 +65,7 @@ fn advance_whole<C: Core>(machine: &mut Machine<C>, limit: u32) -> Result<u32, A
         ≡ after machine.old (end_of machine.old limit None)) }
     ensures attempts { IfOk result (λ made. made ≡ end_of machine.old limit None) }
 {
-    let mut meter = Meter::new();
-    machine.run(limit, &mut meter)?;
-    Ok(meter.ticks() as u32)
+    advance(machine, limit)
 }
 
 /// Runs a machine to the end of a run of so many attempts at most. Returns how many were made.

@@ -39,7 +39,7 @@ mod tracing;
 pub use accounts::Account;
 pub use attempts::push_attempt;
 pub use dumping::{DumpOptions, dump, push_machine, push_registers, push_storage, push_units};
-pub use ends::load;
+pub use ends::{advance, load};
 pub use fields::{push_field, push_shown};
 pub use laws::{
     counts_add_up, dump_is_read, names_are_the_nearest, runs_end_at_the_first_stop,

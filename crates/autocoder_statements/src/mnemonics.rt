@@ -1,13 +1,16 @@
-//! The table of mnemonics: the assembler's own, which it keeps to itself.
+//! The table of mnemonics.
 
 ghost use Rattle.std.specs.Prelude.{◌≡◌};
 ghost use Rattle.autocoder_statements.specs.Mnemonics.{mnemonics};
 
-use autocoder_statements::{Modifiers, OperandForm, OperandForms, OperandKind};
+use crate::modifiers::Modifiers;
+use crate::operand_forms::{OperandForm, OperandForms};
+use crate::operand_kinds::OperandKind;
+use crate::operations::LONGEST_OPERATION;
 
 /// A mnemonic: its name with blanks after it, the glyph of its operation, that of its last
 /// character if it is fixed, and the forms of its operand field.
-pub(crate) type Row = ([u8; 5], (u8, Option<u8>, OperandForms));
+pub type MnemonicRow = ([u8; LONGEST_OPERATION], (u8, Option<u8>, OperandForms));
 
 /// Two fields.
 const FIELDS: OperandForm = OperandForm::Two(OperandKind::Field, OperandKind::Field);
@@ -117,7 +120,7 @@ const POCKET: OperandForms = OperandForms {
 };
 
 /// The mnemonics.
-const MNEMONICS: [Row; 40] = [
+const MNEMONICS: [MnemonicRow; 40] = [
     (*b"A    ", (b'A', None, NONE_ONE_OR_TWO)),
     (*b"S    ", (b'S', None, NONE_ONE_OR_TWO)),
     (*b"ZA   ", (b'?', None, NONE_ONE_OR_TWO)),
@@ -160,8 +163,8 @@ const MNEMONICS: [Row; 40] = [
     (*b"NOP  ", (b'N', None, NONE)),
 ];
 
-/// The table of mnemonics.
-pub(crate) fn mnemonics() -> &'static [Row]
+/// Returns the table of mnemonics. Each name stands in it once.
+pub fn mnemonics() -> &'static [MnemonicRow]
     ensures { result.now ≡ mnemonics }
 {
     &MNEMONICS
