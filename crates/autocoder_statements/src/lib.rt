@@ -34,7 +34,7 @@ pub use constants::Constant;
 pub use expressions::{Address, Adjustment, Base, Expression, NUMBER_LIMIT};
 pub use faults::StatementFault;
 pub use laws::{a_field_has_one_form, a_number_is_read, a_word_names_one_operation};
-pub use mnemonics::{MnemonicRow, mnemonics};
+pub use mnemonics::{MnemonicRow, mnemonic_rows};
 pub use modifiers::Modifiers;
 pub use names::{LONGEST_NAME, Name};
 pub use operand_forms::{OperandForm, OperandForms};

@@ -164,7 +164,7 @@ const MNEMONICS: [MnemonicRow; 40] = [
 ];
 
 /// Returns the table of mnemonics. Each name stands in it once.
-pub fn mnemonics() -> &'static [MnemonicRow]
+pub fn mnemonic_rows() -> &'static [MnemonicRow]
     ensures { result.now ≡ mnemonics }
 {
     &MNEMONICS

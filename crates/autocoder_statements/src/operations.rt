@@ -9,7 +9,7 @@ ghost use Rattle.autocoder_statements.specs.{
 };
 
 use crate::characters::begins;
-use crate::mnemonics::mnemonics;
+use crate::mnemonics::mnemonic_rows;
 use crate::operand_forms::OperandForms;
 use crate::operands::Operand;
 use bcd::Code;
@@ -107,7 +107,7 @@ fn order_named(word: &[Code]) -> Option<Operation>
 fn row_named(word: &[Code]) -> Option<(u8, Option<u8>, OperandForms)>
     ensures { result ≡ entry mnemonics word.now }
 {
-    entry(mnemonics(), word)
+    entry(mnemonic_rows(), word)
 }
 
 /// The operation that a word of five characters names.

@@ -6,7 +6,7 @@ ghost use Rattle.disassembly.specs.Statements.{in_form, in_form_if, in_forms, of
 
 use crate::parts::{address, is_own_last, last};
 use addresses::Tagged;
-use autocoder_statements::{MnemonicRow, OperandForm, mnemonics};
+use autocoder_statements::{MnemonicRow, OperandForm, mnemonic_rows};
 use bcd::Code;
 
 /// An instruction of the machine as a statement of Autocoder.
@@ -155,5 +155,5 @@ fn of_rows(rows: &[MnemonicRow], word: &[Code]) -> Option<Statement>
 pub fn statement_of(word: &[Code]) -> Option<Statement>
     ensures { result ≡ statement_of word.now }
 {
-    of_rows(mnemonics(), word)
+    of_rows(mnemonic_rows(), word)
 }

@@ -14,6 +14,7 @@ use Rattle.run_traces.specs.Causes.{cause_shown}
 use Rattle.run_traces.specs.Effects.{effects_since, made_by}
 use Rattle.run_traces.specs.Names.{Named, name_field}
 use Rattle.run_traces.specs.Shown.{characters_next, left}
+use Rattle.run_traces.specs.Statements.{statement_next}
 use Rattle.run_traces.specs.declared.effects.Made.{Made}
 
 -- the sign of a comparison: how the second operand compares with the first
@@ -56,11 +57,12 @@ outcome_by before m (Checked check) = check_shown m check
 unfoldable pub outcome : Made → State → List ℕ
 outcome before m = outcome_by before m m.standing
 
--- the attempt with this number, where it begins, also by a name where there are names, and the
--- characters of its instruction
+-- the attempt with this number, where it begins, also by a name where there are names, the
+-- characters of its instruction, and the statement that has them
 unfoldable pub beginning : Option Named → ℕ → State → List ℕ
 beginning names number m = right blank 7 number ++ blank ∷ [] ++ position_field m.works.registers.i
     ++ blank ∷ [] ++ name_field names m.works.registers.i ++ left 9 (characters_next m)
+    ++ left 20 (statement_next names m)
 
 -- the line of the attempt with this number that a machine makes next
 unfoldable pub attempt_line : Option Named → ℕ → State → List ℕ

@@ -3,6 +3,7 @@ pub mod Ends
 pub mod Causes
 pub mod Shown
 pub mod Names
+pub mod Statements
 pub mod Addresses
 pub mod Effects
 pub mod Attempts

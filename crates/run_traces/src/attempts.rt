@@ -5,12 +5,14 @@ ghost use Rattle.machine.specs.Run.{step};
 ghost use Rattle.run_traces.specs.{
   Attempts.{attempt_line, beginning, channel_sign, check_shown, compared_sign, effect_shown, outcome, overflow_sign, registers_shown},
   Shown.{characters_next, left},
+  Statements.{statement_next},
 };
 
 use crate::causes::push_cause;
 use crate::effects::{Made, effects_since, made_by};
 use crate::names::{Names, push_name_field};
 use crate::shown::{push_characters, push_padding};
+use crate::statements::push_statement_next;
 use autocoder::{push_line, push_number};
 use check_causes::cause_of;
 use core_store::{Check, Compared, Core};
@@ -113,6 +115,21 @@ fn push_next<C: Core>(line: &mut Vec<u8>, parts: &Parts<C>) -> Result<(), AllocE
     push_padding(line, 9, line.len() - start)
 }
 
+/// The statement of the instruction that a machine attempts next, at the left of twenty places.
+fn push_next_statement<C: Core>(
+    alloc: Global,
+    line: &mut Vec<u8>,
+    names: Option<&Names>,
+    parts: &Parts<C>,
+) -> Result<(), AllocError>
+    ensures { OnOk result (line.new.items ≡ line.old.items
+        ++ left 20 (statement_next (option_copied names.entry) parts.now)) }
+{
+    let start = line.len();
+    push_statement_next(alloc, line, names, parts)?;
+    push_padding(line, 20, line.len() - start)
+}
+
 /// The beginning of the line of an attempt.
 #[tactic(auto, unfolding(crate::specs::Attempts::beginning))]
 fn beginning<C: Core>(
@@ -131,11 +148,13 @@ fn beginning<C: Core>(
     line.push(b' ')?;
     push_name_field(alloc, &mut line, names, parts.registers.i)?;
     push_next(&mut line, parts)?;
+    push_next_statement(alloc, &mut line, names, parts)?;
     Ok(line)
 }
 
 /// Makes the next attempt of a machine, and adds its line: the attempt's number, where it begins,
-/// the characters of its instruction, and what came of it. Fails only if there is no memory.
+/// the characters of its instruction, the statement that has them, and what came of it. Fails only
+/// if there is no memory.
 #[tactic(auto, unfolding(crate::specs::Attempts::attempt_line))]
 pub fn push_attempt<C: Core>(
     alloc: Global,

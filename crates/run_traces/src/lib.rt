@@ -10,7 +10,8 @@
 //! (`specs/Reports.antt`); without a stop that is the machine after a whole run. [`Names`] are
 //! those of a source without faults (`specs/Names.antt`), by which a text says an address
 //! (`specs/Addresses.antt`). Who goes on by single attempts uses the calls that make these texts:
-//! [`push_shown`] and [`push_machine`].
+//! [`push_shown`] and [`push_machine`]. An instruction's statement is that of `disassembly`
+//! (`specs/Statements.antt`).
 //!
 //! Laws: a run ends at the first stop that it comes to ([`runs_end_at_the_first_stop`]), and
 //! without one it is a whole run ([`runs_without_stop_are_whole`]). The counts of a profile add up
@@ -34,6 +35,7 @@ mod profiling;
 mod reports;
 mod rows;
 mod shown;
+mod statements;
 mod tracing;
 
 pub use accounts::Account;
@@ -47,4 +49,5 @@ pub use laws::{
 };
 pub use names::Names;
 pub use profiling::profile;
+pub use statements::push_statement_next;
 pub use tracing::{TraceOptions, trace};

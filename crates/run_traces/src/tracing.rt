@@ -219,9 +219,11 @@ fn ending_of<C: Core>(parts: &Parts<C>, attempts: u32) -> Ending
 ///
 /// Shown are the attempts that the options ask for, and of a run that ends in a check the last
 /// twenty. A line has the attempt's number, the address at which it begins, also by the nearest
-/// name where names are given, and the characters of its instruction; then the registers A and B and
-/// the indicators after it and what the units did, or the check with its cause. Below it are, if
-/// the options ask for them, the fields at which it works, before it and after it. Without a stop the report is that of a whole run. Fails only if there is no memory.
+/// name where names are given, the characters of its instruction, and the statement of Autocoder
+/// that has them, if there is one; then the registers A and B and the indicators after it and what
+/// the units did, or the check with its cause. Below it are, if the options ask for them, the fields
+/// at which it works, before it and after it. Without a stop the report is that of a whole run.
+/// Fails only if there is no memory.
 #[tactic(auto, unfolding(crate::specs::Traces::traced))]
 pub fn trace(
     alloc: Global,
