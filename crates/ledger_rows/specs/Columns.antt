@@ -1,5 +1,5 @@
 -- the columns of the tables for cards, lines and machines
-use Rattle.std.specs.Prelude.{ℕ, ◌≡◌, ◌+◌, ◌<◌, Bool, true, false, if◌then◌else◌, List, map, flat_map, length, All, Option, Some, None}
+use Rattle.std.specs.Prelude.{ℕ, ◌≡◌, ◌+◌, ◌<◌, Bool, true, false, if◌then◌else◌, List, map, flat_map, length, All}
 use Rattle.cards.specs.declared.decks.Card.{Card}
 use Rattle.cards.specs.Decks.{AreCharacters}
 use Rattle.core_store.specs.Storage.{Storage}
@@ -10,6 +10,7 @@ use Rattle.units.specs.Pockets.{pocket_number}
 use Rattle.units.specs.Stacked.{Stacked}
 use Rattle.units.specs.declared.profiles.Profile.{Profile}
 use Rattle.units.specs.declared.profiles.Profile.TheVariants.{Plain, Selecting}
+use Rattle.machine.specs.Numbers.{compare_number, standing_number, waiting_number}
 use Rattle.machine.specs.Run.{State}
 use Rattle.ledger_tables.specs.Cells.{LineCells}
 use Rattle.ledger_tables.specs.declared.rows.ProfileRow.{ProfileRow}
