@@ -335,16 +335,9 @@ class BeforeMachines:
                                stderr=subprocess.STDOUT)
         return given.returncode, given.stdout
 
-    def show_move(self):
-        customers = ['ACME', 'ZETA', 'DELTA', 'LOGOS']
-        for name in customers:
-            self.ask(name, 'PUT', f'/c/{name}/j/10/autocoder/4000/A', example('primes.source'))
-            self.ask(name, 'POST', f'/c/{name}/j/10/slice/500')
-            self.ask(name, 'PUT', f'/c/{name}/j/12/object/4000/A', example('copy_and_count.deck'))
-            self.ask(name, 'POST', f'/c/{name}/j/12/slice/2000')
-            self.ask(name, 'POST', f'/c/{name}/j/12/collect')
-            self.last[name] = self.all_of(name)
-        found, failed, count, old = [], [], 0, self.words['ACME']
+    def go_through_move(self, customers):
+        """Gives the lines of the page. What was wrong after each, which lines failed, and how many there are."""
+        found, failed, count = [], [], 0
         for place, block in enumerate(blocks_of_page('Moving a customer to another machine')):
             for line in block.splitlines():
                 if line.startswith('cd '):
@@ -356,6 +349,19 @@ class BeforeMachines:
                     self.words['ACME'] = told.split()[-1]
                 found += [f'after `{line}`: {it}' for it in self.wrongs(customers, ['LOGOS'])]
                 count += 1
+        return found, failed, count
+
+    def show_move(self):
+        customers = ['ACME', 'ZETA', 'DELTA', 'LOGOS']
+        for name in customers:
+            self.ask(name, 'PUT', f'/c/{name}/j/10/autocoder/4000/A', example('primes.source'))
+            self.ask(name, 'POST', f'/c/{name}/j/10/slice/500')
+            self.ask(name, 'PUT', f'/c/{name}/j/12/object/4000/A', example('copy_and_count.deck'))
+            self.ask(name, 'POST', f'/c/{name}/j/12/slice/2000')
+            self.ask(name, 'POST', f'/c/{name}/j/12/collect')
+            self.last[name] = self.all_of(name)
+        old = self.words['ACME']
+        found, failed, count = self.go_through_move(customers)
         self.is_so(f'a customer moves to the other machine by the {count} lines of README.md',
                    (True, []), (count > 20, failed))
         self.is_so('after each of them who is answered has all that is his, by one bureau', [],

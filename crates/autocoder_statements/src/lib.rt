@@ -40,6 +40,6 @@ pub use names::{LONGEST_NAME, Name};
 pub use operand_forms::{OperandForm, OperandForms};
 pub use operand_kinds::OperandKind;
 pub use operands::{Operand, read_operand};
-pub use operations::{Instruction, Mnemonic, Operation};
+pub use operations::{Instruction, Mnemonic, Operation, code_of};
 pub use reading::{Statement, read};
 pub use texts::{LONGEST_TEXT, Text};

@@ -32,7 +32,7 @@ fn is_among(code: Code, glyphs: &[u8]) -> bool
 impl Modifiers {
     /// Whether a character is one of them.
     #[tactic(auto, unfolding(crate::specs::Operands::is_modifier))]
-    fn has(self, code: Code) -> bool
+    pub fn has(self, code: Code) -> bool
         ensures { result ≡ is_modifier self code }
     {
         match self {

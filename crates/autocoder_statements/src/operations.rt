@@ -126,8 +126,8 @@ pub fn operation_named(word: &[Code]) -> Option<Operation>
     }))
 }
 
-/// The character of a glyph.
-fn code_of(glyph: u8) -> Code
+/// Returns the character of a glyph; the blank where it is that of none.
+pub fn code_of(glyph: u8) -> Code
     ensures { result ≡ code_of glyph }
 {
     match Code::from_glyph(glyph) {

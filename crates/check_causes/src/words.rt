@@ -20,6 +20,7 @@ use machine::Word;
 #[tactic(auto, unfolding(machine::specs::Word::word_length))]
 pub fn word_length<C: Core>(core: &C, i: u16) -> Option<u16>
     ensures count { result ≡ word_length (C.cells core.now) i }
+    ensures most { IfSome result (λ count. count ≤ 8) }
     ensures within { IfSome result (λ count. i + count ≤ length (C.cells core.now)) }
 {
     if i < core.size() {

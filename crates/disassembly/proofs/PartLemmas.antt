@@ -1,4 +1,4 @@
--- for `parts`: addresses, and a character that stands alone in a field
+-- for `parts`: addresses
 use Rattle.std.proofs.Common.{◌≡◌, ◌≤◌, ℕ, Bool, true, false, List, [], ◌∷◌, length, get_or, Some, None, if◌then◌else◌, refl, sym, arith}
 use Rattle.std.specs.Str.{bytes_eq}
 use Rattle.bcd.specs.Table.{zone_of}
@@ -9,17 +9,6 @@ use Rattle.autocoder_statements.specs.Operands.{is_modifier, modifier, operands,
 use Rattle.autocoder_statements.specs.declared.modifiers.Modifiers.{Modifiers}
 use Rattle.autocoder_statements.specs.declared.operand_forms.OperandForm.TheVariants.{Modifier}
 use Rattle.disassembly.specs.Statements.{address}
-
--- a character alone has the form of a last character exactly if it may be one
-pub taken_alone : (modifiers : Modifiers) (code : ℕ)
-    → is_some (operands (Modifier modifiers) (code ∷ [])) ≡ is_modifier modifiers code
-unfolding operands modifier is_ended
-taken_alone modifiers code = by_test (is_modifier modifiers code)
-  where
-    by_test : (test : Bool) → is_some (option_map (with_modifier None None)
-        (if test then (if true then Some code else None) else None)) ≡ test
-    by_test true = refl
-    by_test false = refl
 
 -- for `address`: three characters that are written so
 pub address_found : (text : List ℕ) (x y z : ℕ) (found : Tagged) → 3 ≤ length text → x ≡ get_or text 0 x → y ≡ get_or text 1 y → z ≡ get_or text 2 z

@@ -9,19 +9,8 @@ use crate::positions::FIRST_FREE;
 use autocoder::Program;
 use autocoder_layout::Cell;
 use core_store::{Core, FlagCore, Size};
+use moves::put_mark;
 use std::alloc::{AllocError, Global};
-
-/// Sets a word mark, or clears it.
-fn set_mark<C: Core>(core: &mut C, position: u16, marked: bool)
-    requires { position < length (C.cells core.old) }
-    ensures { C.cells core.new ≡ with_mark (C.cells core.old) position marked }
-{
-    if marked {
-        core.set_mark(position);
-    } else {
-        core.clear_mark(position);
-    }
-}
 
 /// Fills a position of a storage.
 fn fill<C: Core>(core: &mut C, cell: &Cell)
@@ -32,7 +21,7 @@ fn fill<C: Core>(core: &mut C, cell: &Cell)
 {
     let position = cell.position as u16;
     core.put(position, cell.code);
-    set_mark(core, position, cell.marked);
+    put_mark(core, position, cell.marked);
 }
 
 /// A storage with an image in it, blank else.

@@ -2,12 +2,12 @@
 
 use crate::instructions::instruction_at;
 use crate::names::{name_at, push_name};
-use crate::operands::{code_of, digit, push_number};
+use crate::operands::{digit, push_number};
 use crate::pieces::{Kind, Piece};
 use crate::positions::Positions;
 use addresses::Tagged;
 use autocoder_layout::Slot;
-use autocoder_statements::Name;
+use autocoder_statements::{Name, code_of};
 use bcd::Code;
 use core_store::Core;
 use std::alloc::{AllocError, Global};

@@ -10,19 +10,9 @@ use crate::names::{name_at, push_name};
 use crate::statements::Statement;
 use addresses::{IndexLocation, Tagged, digit_under};
 use autocoder_layout::Slot;
-use autocoder_statements::Name;
+use autocoder_statements::{Name, code_of};
 use bcd::{Code, Zone};
 use std::alloc::AllocError;
-
-/// The character of a glyph.
-pub(crate) fn code_of(glyph: u8) -> Code
-    ensures { result ≡ code_of glyph }
-{
-    match Code::from_glyph(glyph) {
-        Some(code) => code,
-        None => Code::blank(),
-    }
-}
 
 /// The digit of a number at the place of this unit.
 pub(crate) fn digit(number: u16, unit: u16) -> Code

@@ -3,11 +3,10 @@
 ghost use Rattle.std.specs.Prelude.{◌≡◌, ◌<◌, ◌≤◌, bytes_eq, length, IfSome};
 ghost use Rattle.core_store.specs.Storage.{largest_size};
 ghost use Rattle.addresses.specs.Addresses.{written};
-ghost use Rattle.autocoder_statements.specs.Operands.{is_modifier};
 ghost use Rattle.disassembly.specs.Statements.{address, is_own_last, last};
 
 use addresses::{Tagged, decode, encode_tagged};
-use autocoder_statements::{Modifiers, OperandForm};
+use autocoder_statements::Modifiers;
 use bcd::{Code, Zone};
 
 /// Whether these are the characters of an address with this tag.
@@ -35,14 +34,6 @@ pub(crate) fn address(text: &[Code]) -> Option<Tagged>
     Some(address)
 }
 
-/// Whether an instruction that takes these characters may end in one.
-#[tactic(auto, using(crate::proofs::PartLemmas::taken_alone))]
-fn is_modifier(modifiers: Modifiers, code: Code) -> bool
-    ensures { result ≡ is_modifier modifiers code }
-{
-    OperandForm::Modifier(modifiers).read(&[code]).is_some()
-}
-
 /// The one character that a text is, if an instruction that takes these may end in it.
 #[tactic(auto, unfolding(crate::specs::Statements::last))]
 pub(crate) fn last(modifiers: Modifiers, text: &[Code]) -> Option<Code>
@@ -51,7 +42,7 @@ pub(crate) fn last(modifiers: Modifiers, text: &[Code]) -> Option<Code>
     let [code] = text else {
         return None;
     };
-    if !is_modifier(modifiers, *code) {
+    if !modifiers.has(*code) {
         return None;
     }
     Some(*code)

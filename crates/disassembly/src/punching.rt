@@ -1,7 +1,6 @@
 //! The cards of a source, punched column by column.
 
-use crate::operands::code_of;
-use autocoder_statements::Name;
+use autocoder_statements::{Name, code_of};
 use bcd::Code;
 use cards::{COLUMNS, Card};
 use std::alloc::{AllocError, Global};

@@ -2,29 +2,15 @@
 
 ghost use Rattle.std.specs.Prelude.{◌≡◌, ◌<◌, ◌≤◌, ◌+◌, length, take, IfSome};
 ghost use Rattle.core_store.specs.Storage.{codes_from};
-ghost use Rattle.machine.specs.Word.{word_length};
 ghost use Rattle.disassembly.specs.Storage.{statement_at};
 
 use crate::statements::{Statement, statement_of};
 use bcd::Code;
+use check_causes::word_length;
 use core_store::Core;
 
 /// The greatest number of characters of an instruction.
 const LONGEST: usize = 8;
-
-/// The number of characters of the instruction at a position, if one begins and ends there.
-#[tactic(auto, unfolding(machine::specs::Word::word_length))]
-fn word_length<C: Core>(core: &C, i: u16) -> Option<u16>
-    ensures count { result ≡ word_length (C.cells core.now) i }
-    ensures within { IfSome result (λ count. (count ≤ 8)
-        × (i + count ≤ length (C.cells core.now))) }
-{
-    if i < core.size() {
-        machine::word_length(core, i)
-    } else {
-        None
-    }
-}
 
 /// The characters from a position on, blanks behind them.
 pub(crate) fn codes_from<C: Core>(core: &C, first: u16, count: u16) -> [Code; LONGEST]

@@ -2,7 +2,7 @@
 
 use crate::instructions::instruction_at;
 use crate::labels::Labels;
-use crate::operands::{code_of, digit, push_address, push_next_last, push_number, push_operands};
+use crate::operands::{digit, push_address, push_next_last, push_number, push_operands};
 use crate::pieces::{Kind, Piece};
 use crate::positions::FIRST_FREE;
 use crate::punching::{card_of, codes_of, comment_of};
@@ -11,7 +11,7 @@ use crate::statements::Statement;
 use crate::stored::statement_at;
 use addresses::Tagged;
 use autocoder_layout::{Definition, Slot};
-use autocoder_statements::Name;
+use autocoder_statements::{Name, code_of};
 use bcd::Code;
 use cards::{Card, Deck, DeckFault};
 use core_store::Core;

@@ -19,7 +19,8 @@ use Rattle.office.specs.Office.{Entry, Office, is_entry, job_of, own, free_jobs,
 use Rattle.bcd.specs.Orders.{in_order}
 use Rattle.bcd.proofs.Orders.{AreApart, all_map, all_ordered, all_weaker, apart_kept, filter_in_order, in_order_has, in_order_rises, rises_map, rises_once}
 use Rattle.office.specs.Queued.{QueuedJob}
-use Rattle.ledger_rows.specs.Columns.{standing_number, state_row, truth}
+use Rattle.machine.specs.Numbers.{standing_number}
+use Rattle.ledger_rows.specs.Columns.{state_row, truth}
 use Rattle.ledger_tables.proofs.InsertLast.{name_is, name_yes}
 use Rattle.ledger_tables.proofs.LookupOrder.{in_order-map}
 use Rattle.ledger_tables.proofs.RunningLookups.{name_total, same_names}

@@ -37,7 +37,8 @@ use Rattle.office.specs.declared.stretches.Stretch.{Stretch}
 use Rattle.sqlite.specs.Order.{Row}
 use Rattle.sqlite.specs.State.{State, HasCleanDisk, Survives}
 use Rattle.sqlite_disk.specs.Disk.{MoreFaults}
-use Rattle.ledger_rows.specs.Columns.{compare_number, profile_number, standing_number, state_row, truth, waiting_number}
+use Rattle.machine.specs.Numbers.{compare_number, standing_number, waiting_number}
+use Rattle.ledger_rows.specs.Columns.{profile_number, state_row, truth}
 use Rattle.ledger_rows.specs.Pages.{page_bytes, rows_of}
 use Rattle.ledger_tables.specs.Cells.{JobCells, LoadedCells, unless_blank}
 use Rattle.ledger_tables.specs.Listed.{loaded_row}

@@ -3,7 +3,7 @@ use Rattle.std.specs.Prelude.{◌<◌, ◌≤◌}
 use Rattle.core_store.specs.Storage.{largest_size}
 use Rattle.units.specs.Units.{made_in_all, most_cards, most_lines}
 use Rattle.machine.specs.Run.{State}
-use Rattle.ledger_rows.specs.Columns.{standing_number}
+use Rattle.machine.specs.Numbers.{standing_number}
 use Rattle.ledger_rows.specs.declared.progress.Progress.{Progress}
 use Rattle.ledger_tables.specs.declared.rows.ProgressRow.{ProgressRow}
 

@@ -5,7 +5,8 @@ use Rattle.units.specs.Units.{made_in_all}
 use Rattle.units.specs.declared.carriage.Carriage.{Carriage}
 use Rattle.units.specs.declared.units.Units.{Units}
 use Rattle.ledger_rows.specs.declared.parts.Media.{Media}
-use Rattle.ledger_rows.specs.Columns.{truth, compare_number, waiting_number}
+use Rattle.machine.specs.Numbers.{compare_number, waiting_number}
+use Rattle.ledger_rows.specs.Columns.{truth}
 use Rattle.ledger_tables.specs.declared.rows.StateRow.{StateRow}
 
 -- the state row has these registers

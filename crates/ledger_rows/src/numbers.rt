@@ -11,7 +11,8 @@ ghost use Rattle.units.specs.{
   declared.switches.Switches.{Switches},
   Switches.{AreSeven},
 };
-ghost use Rattle.ledger_rows.specs.Columns.{truth, compare_number, waiting_number, check_number, standing_number, profile_number};
+ghost use Rattle.machine.specs.Numbers.{compare_number, waiting_number, standing_number};
+ghost use Rattle.ledger_rows.specs.Columns.{truth, profile_number};
 
 use bitflags::Flags;
 use core_store::{Check, Compared};
@@ -61,17 +62,6 @@ pub fn read_truth(number: u32) -> Option<bool>
     }
 }
 
-/// The number of a comparison: 0 equal, 1 B low, 2 B high.
-pub fn compare_number(compare: Compared) -> u32
-    ensures { result ≡ compare_number compare }
-{
-    match compare {
-        Compared::Equal => 0,
-        Compared::Low => 1,
-        Compared::High => 2,
-    }
-}
-
 /// The comparison with this number, if there is one.
 pub fn read_compare(number: u32) -> Option<Compared>
     ensures all { (compare : Compared) → number ≡ compare_number compare → result ≡ Some compare }
@@ -82,19 +72,6 @@ pub fn read_compare(number: u32) -> Option<Compared>
         1 => Some(Compared::Low),
         2 => Some(Compared::High),
         _ => None,
-    }
-}
-
-/// The number of the move that waits: 0 none, 1 to 3 spaces, 4 skip.
-pub fn waiting_number(waiting: Option<Motion>) -> u32
-    ensures { result ≡ waiting_number waiting }
-{
-    match waiting {
-        None => 0,
-        Some(Motion::Space) => 1,
-        Some(Motion::DoubleSpace) => 2,
-        Some(Motion::TripleSpace) => 3,
-        Some(Motion::SkipToChannel1) => 4,
     }
 }
 
@@ -111,32 +88,6 @@ pub fn read_waiting(number: u32) -> Option<Option<Motion>>
         3 => Some(Some(Motion::TripleSpace)),
         4 => Some(Some(Motion::SkipToChannel1)),
         _ => None,
-    }
-}
-
-/// The number of a check, 2 to 8.
-fn check_number(check: Check) -> u32
-    ensures { result ≡ check_number check }
-{
-    match check {
-        Check::Address => 2,
-        Check::Instruction => 3,
-        Check::Data => 4,
-        Check::Overlap => 5,
-        Check::ReaderEmpty => 6,
-        Check::PunchFull => 7,
-        Check::PrinterFull => 8,
-    }
-}
-
-/// The number of a standing: 0 running, 1 halted, 2 to 8 the checks.
-pub fn standing_number(standing: Standing) -> u32
-    ensures { result ≡ standing_number standing }
-{
-    match standing {
-        Standing::Running => 0,
-        Standing::Halted => 1,
-        Standing::Checked(check) => check_number(check),
     }
 }
 

@@ -20,15 +20,12 @@ ghost use Rattle.ledger_rows.specs.{
   Rows.{HasRegisters, HasCarriage, HasUnits},
 };
 
-use crate::numbers::{
-    compare_number, read_compare, read_standing, read_truth, read_waiting, standing_number, truth,
-    waiting_number,
-};
+use crate::numbers::{read_compare, read_standing, read_truth, read_waiting, truth};
 use crate::pages::put_pages;
 use cards::Deck;
 use core_store::{Core, Registers, Size};
 use ledger_tables::{PageRow, StateRow};
-use machine::Parts;
+use machine::{Parts, compare_number, standing_number, waiting_number};
 use std::alloc::{AllocError, Global};
 use units::{Carriage, Counts, Hopper, Line, Printer, Punch, Switches, Units};
 

@@ -9,5 +9,6 @@ pub mod Effect
 pub mod Run
 pub mod Earlier
 pub mod Standings
+pub mod Numbers
 pub mod Ranges
 pub mod Reports

@@ -26,6 +26,7 @@ mod instruction;
 mod kinds;
 mod meter;
 mod named;
+mod numbers;
 mod operations;
 mod parts;
 mod ranges;
@@ -40,6 +41,7 @@ pub use earlier::{earlier_outputs_stay_in_front, outputs_are_put_back, outputs_a
 pub use forms::{addresses_in, allows, has_form};
 pub use instruction::Instruction;
 pub use meter::Meter;
+pub use numbers::{compare_number, standing_number, waiting_number};
 pub use parts::Parts;
 pub use reports::Report;
 pub use runs::{Machine, Ran, runs_add, runs_only_add, stays_in_range};

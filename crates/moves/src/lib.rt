@@ -24,7 +24,7 @@ pub use characters::parts_are_read;
 pub use editing::{edit, edit_clear, edited_shows_the_data, shares};
 pub use filling::data_count;
 pub use loading::{load_at, load_clear, load_field, loaded_is_by_position};
-pub use marks::{clear_mark, clear_storage, set_mark};
+pub use marks::{clear_mark, clear_storage, put_mark, set_mark};
 pub use moving::{move_at, move_clear, move_field, move_length, moved_is_by_position};
 pub use parts::{digit, zone};
 pub use suppressing::{suppress, suppress_clear};

@@ -8,7 +8,7 @@ use core_store::{Check, Core, Registers, check_inside, lower};
 
 /// Sets or clears the word mark at a position. The character stays.
 #[inline(always)]
-fn put_mark<C: Core>(core: &mut C, position: u16, marked: bool)
+pub fn put_mark<C: Core>(core: &mut C, position: u16, marked: bool)
     requires { position < length (C.cells core.old) }
     ensures { C.cells core.new ≡ with_mark (C.cells core.old) position marked }
 {

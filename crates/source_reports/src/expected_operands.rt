@@ -4,7 +4,6 @@
 ghost use Rattle.std.specs.Prelude.{◌≡◌, ◌<◌, ◌++◌, OnOk};
 ghost use Rattle.source_reports.specs.ExpectedOperands.{glyph_if_taken, taken_glyphs, choice_text, letter_of, form_text, or_form_text, alone_by, forms_text, expected_text};
 
-use crate::operand_stops::is_modifier;
 use crate::pieces::push_text;
 use autocoder_statements::{Modifiers, OperandForm, OperandForms, OperandKind, Operation};
 use bcd::Code;
@@ -21,7 +20,7 @@ fn push_if_taken(text: &mut Vec<u8>, modifiers: Modifiers, number: u8) -> Result
     let Some(code) = Code::from_number(number) else {
         return Ok(());
     };
-    if !is_modifier(modifiers, code) {
+    if !modifiers.has(code) {
         return Ok(());
     }
     text.push(code.glyph())?;

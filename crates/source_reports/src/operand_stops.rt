@@ -3,7 +3,7 @@
 ghost use Rattle.std.specs.Prelude.{◌≡◌, ◌<◌, ◌≤◌, ◌-◌, if◌then◌else◌, false, length, drop, IfSome, IsTrue};
 ghost use Rattle.autocoder_statements.specs.{
   Limits.{longest_text},
-  Operands.{operand, is_modifier},
+  Operands.{operand},
 };
 ghost use Rattle.source_reports.specs.OperandStops.{character_at, glyph_at, has_comma, ends_at, farther, operand_end, character_stop, stop_behind, stop_of_one, stop_of_two, form_stop, or_farther, forms_stop, plain_length, address_stop, are_zeros, begins_positive, number_stop, opens_literal, constant_stop, gives_size, size_stop, start_stop, stop_of};
 
@@ -100,20 +100,12 @@ fn operand_end(kind: OperandKind, count: usize, field: &[Code]) -> Option<usize>
     }
 }
 
-/// Whether a character may be the last one of an instruction that takes these.
-#[tactic(auto, using(crate::proofs::StopLemmas::taken_alone))]
-pub(crate) fn is_modifier(modifiers: Modifiers, code: Code) -> bool
-    ensures { result ≡ is_modifier modifiers code }
-{
-    OperandForm::Modifier(modifiers).read(&[code]).is_some()
-}
-
 /// The stop at the last character of an instruction.
 fn character_stop(modifiers: Modifiers, count: usize, field: &[Code]) -> Stop
     requires { count ≤ length field.now }
     ensures { result ≡ character_stop modifiers count field.now }
 {
-    if is_modifier(modifiers, character_at(field, count)) {
+    if modifiers.has(character_at(field, count)) {
         Stop {
             count: count + 1,
             wanted: Wanted::LastEnd,

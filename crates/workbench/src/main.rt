@@ -39,7 +39,7 @@ use crate::filing::write_page;
 use crate::filming::write_film;
 use crate::intake::take_in;
 use crate::listing::{compare_decks, list_deck};
-use crate::manifests::{Listing, manifest};
+use crate::manifests::manifest;
 use crate::numbering::{check_numbers, number_deck};
 use crate::process::Process;
 use crate::punching::punch_text;
@@ -81,23 +81,7 @@ fn work<W: Write, E: Write>(
             narrow,
             with_data,
         } => show_source(process, source, Showing::of(*narrow, *with_data)),
-        Task::Manifest {
-            decks,
-            form,
-            counts,
-            known,
-        } => {
-            let (form, counts, known) = (*form, *counts, *known);
-            manifest(
-                process,
-                decks,
-                Listing {
-                    form,
-                    counts,
-                    known,
-                },
-            )
-        },
+        Task::Manifest(wanted) => manifest(process, wanted),
         Task::Intake(intake) => take_in(process, intake),
         Task::Trace(tracing) => trace_deck(process, *tracing),
         Task::Dump(dumping) => dump_deck(process, *dumping),

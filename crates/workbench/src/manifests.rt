@@ -14,17 +14,7 @@ use command_line::Status;
 use std::alloc::{AllocError, Global};
 use std::io::Write;
 use std::{fs, io};
-
-/// How the decks of a manifest are read and told.
-#[derive(Clone, Copy)]
-pub(crate) struct Listing<'a> {
-    /// The form of all files, if one is named.
-    pub form: Option<Form>,
-    /// Whether the number of cards stands before each name.
-    pub counts: bool,
-    /// The path of the lines to compare with, if there are some.
-    pub known: Option<&'a str>,
-}
+use workbench_arguments::Manifest;
 
 /// The line of a deck with this name, with the number of its cards if that is asked for.
 fn line_by(
@@ -83,20 +73,20 @@ pub(crate) fn hindrance_of(name: &[u8]) -> Option<&'static str> {
 fn line_at<W: Write, E: Write>(
     process: &mut Process<W, E>,
     path: &str,
-    listing: Listing<'_>,
+    wanted: &Manifest<'_>,
 ) -> Result<Vec<u8>, Undone> {
     if let Some(why) = hindrance_of(path.as_bytes()) {
         return Err(process.refuse(path, why)?);
     }
     let bytes = process.read(path)?;
-    match line_of(process.alloc(), path, listing.form, listing.counts, &bytes) {
+    match line_of(process.alloc(), path, wanted.form, wanted.counts, &bytes) {
         Ok(line) => Ok(line),
         Err(fault) => {
             let file = Named {
                 path,
                 bytes: &bytes,
             };
-            Err(tell_form_fault(&mut process.errors, file, listing.form, fault)?)
+            Err(tell_form_fault(&mut process.errors, file, wanted.form, fault)?)
         }
     }
 }
@@ -128,7 +118,7 @@ fn take_damaged<'a>(
 fn lines_at<'a, W: Write, E: Write>(
     process: &mut Process<W, E>,
     files: &'a Found,
-    listing: Listing<'_>,
+    wanted: &Manifest<'_>,
 ) -> Result<Lines<'a>, Undone> {
     let mut lines = Lines {
         text: Vec::new(process.alloc()),
@@ -137,7 +127,7 @@ fn lines_at<'a, W: Write, E: Write>(
     };
     for path in &files.paths {
         let path = path.as_str();
-        match line_at(process, path, listing) {
+        match line_at(process, path, wanted) {
             Ok(line) => lines.text.extend_from_slice(&line)?,
             Err(Undone::Told(_)) => {
                 lines.whole = false;
@@ -299,12 +289,11 @@ fn check_manifest<W: Write, E: Write>(
 /// A path may be that of a folder.
 pub(crate) fn manifest<W: Write, E: Write>(
     process: &mut Process<W, E>,
-    paths: &[&str],
-    listing: Listing<'_>,
+    wanted: &Manifest<'_>,
 ) -> Result<Status, Undone> {
-    let files = files_of(process, paths)?;
-    let lines = lines_at(process, &files, listing)?;
-    match listing.known {
+    let files = files_of(process, &wanted.decks)?;
+    let lines = lines_at(process, &files, wanted)?;
+    match wanted.known {
         Some(path) => check_manifest(process, &lines, path),
         None => process.print(&lines.text, status_if(lines.whole)),
     }

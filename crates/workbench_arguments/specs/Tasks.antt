@@ -135,10 +135,10 @@ HasForm found form = ReadsIf (λ argument form. argument ≡ word_of form) (firs
 
 -- the task of `manifest`
 abbrev pub WantsManifest : List Row → Task → Type 0
-WantsManifest found (Manifest decks form counts known) =
-    (map (λ deck. deck.now) decks.items ≡ unwrap_or (all_of (codes "FILE") found) [])
-    × HasForm found form × (counts ≡ has_flag (codes "cards") found)
-    × MayHaveArgument (codes "check") found known
+WantsManifest found (Manifest it) =
+    (map (λ deck. deck.now) it.decks.items ≡ unwrap_or (all_of (codes "FILE") found) [])
+    × HasForm found it.form × (it.counts ≡ has_flag (codes "cards") found)
+    × MayHaveArgument (codes "check") found it.known
 WantsManifest found other = ⊥
 
 -- this is what a machine begins with: the file of its deck or source in an argument, and the size

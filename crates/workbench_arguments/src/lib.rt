@@ -18,6 +18,6 @@ mod values;
 pub use help::VERSION;
 pub use subcommands::{Subcommand, WORKBENCH};
 pub use tasks::{
-    Coding, Cutting, DeckListing, Dumping, Ends, Filming, Intake, Numbering, Punching, Setup, Task,
-    Tracing, task_of,
+    Coding, Cutting, DeckListing, Dumping, Ends, Filming, Intake, Manifest, Numbering, Punching,
+    Setup, Task, Tracing, task_of,
 };

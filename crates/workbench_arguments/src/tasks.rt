@@ -168,6 +168,19 @@ pub struct Coding<'a> {
     pub numbers: bool,
 }
 
+/// The decks whose digests are printed or compared.
+#[derive(Drop)]
+pub struct Manifest<'a> {
+    /// The paths of the decks, and of folders with decks.
+    pub decks: Vec<&'a str>,
+    /// The form that all of their files have, if it is named.
+    pub form: Option<Form>,
+    /// Whether the number of cards is printed too.
+    pub counts: bool,
+    /// The path of the digests to compare with.
+    pub known: Option<&'a str>,
+}
+
 /// When a machine is shown, and how much of its storage.
 #[derive(Clone, Copy)]
 pub struct Dumping<'a> {
@@ -229,16 +242,7 @@ pub enum Task<'a> {
         with_data: bool,
     },
     /// Print the digests of decks, or compare them with those of a file.
-    Manifest {
-        /// The paths of the decks, and of folders with decks.
-        decks: Vec<&'a str>,
-        /// The form that all of their files have, if it is named.
-        form: Option<Form>,
-        /// Whether the number of cards is printed too.
-        counts: bool,
-        /// The path of the digests to compare with.
-        known: Option<&'a str>,
-    },
+    Manifest(Manifest<'a>),
     /// Take the files of a folder as decks.
     Intake(Intake<'a>),
     /// Print the instructions of a run.
@@ -530,12 +534,12 @@ fn manifest_task<'a>(alloc: Global, found: &Found<'a>) -> Result<Task<'a>, Mista
     let form = option_form_in(found)?;
     let counts = found.has_flag("cards");
     let known = found.value("check");
-    Ok(Task::Manifest {
+    Ok(Task::Manifest(Manifest {
         decks,
         form,
         counts,
         known,
-    })
+    }))
 }
 
 /// The task of a subcommand, by what clap found after its name.
