@@ -1,4 +1,4 @@
-use Rattle.std.proofs.Common.{◌≡◌, ◌∙◌, ap}
+use Rattle.std.proofs.Common.{◌∙◌, ap}
 use Rattle.machine.specs.Run.{State, step}
 use Rattle.std.specs.Prelude.{option_copied}
 use Rattle.run_traces.specs.Attempts.{attempt_line}

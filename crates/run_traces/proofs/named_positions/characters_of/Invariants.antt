@@ -1,4 +1,4 @@
-use Rattle.std.proofs.Common.{◌≡◌, ◌<◌, List, All, take}
+use Rattle.std.proofs.Common.{◌≡◌, ◌<◌, All, take}
 use Rattle.autocoder.specs.Listing.{glyphs_of}
 use Rattle.run_traces.proofs.named_positions.characters_of.Given as goal
 

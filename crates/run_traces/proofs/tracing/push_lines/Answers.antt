@@ -13,7 +13,7 @@ loop-number-init g c =
     let none = hidden_before (is_shown sheet.options sheet.ending) (attempt_shown (option_copied c.args.names) sheet.options.fields) c.args.machine.now (c.args.first - 1)
     (λ number some within. c.requires.before number some (omega (arith, within))) in
     record {
-      machine = c.in_ok-advance.ensures;
+      machine = c.in_ok-advance.ensures.machine;
       text = sym (ap (λ lines. c.args.text.now.items ++ lines) none ∙ append-nil c.args.text.now.items);
     }
 
