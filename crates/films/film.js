@@ -15,6 +15,8 @@ function cell(item) {
   const colon = item.indexOf(":"), sign = item[item.length - 1];
   return [+item.slice(0, colon), SIGN[sign] || sign, item[colon + 1] === "'" && item.length > colon + 2];
 }
+// A word of a step is: d, the statement that has its instruction's characters; I, A and B, positions at which it works;
+// and what is so behind it: p, a line; u, a card; a digit, the contents of a position; another letter, a number.
 function step(items) {
   const s = {cells: [], values: [], spans: [], paper: [], cards: [], said: ""};
   for (const item of items) {

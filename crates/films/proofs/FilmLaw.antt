@@ -32,16 +32,18 @@ use Rattle.machine.proofs.Steps.{after-after, after_one, stems_after, stems_same
 use Rattle.run_traces.specs.Names.{Named}
 use Rattle.films.specs.Changes.{Item, all_played, cell_is, cell_items, change, differences, is_same_cell, number_is, number_items, played, printed, punched}
 use Rattle.films.specs.Films.{film_text}
-use Rattle.films.specs.Frames.{ComesBehind, Frame, card_shown, cards_before, cards_of, check_number, compared_number, frame_of, indicator_number, line_shown, lines_before, nothing, numbers_of, standing_number, waiting_number}
+use Rattle.machine.specs.Numbers.{check_number, compare_number, standing_number, waiting_number}
+use Rattle.films.specs.Frames.{ComesBehind, Frame, card_shown, cards_before, cards_of, frame_of, indicator_number, line_shown, lines_before, nothing, numbers_of}
 use Rattle.films.specs.Laws.{IsReadable}
 use Rattle.films.specs.Reading.{changes_read}
 use Rattle.films.specs.Steps.{change_lines, step_lines}
-use Rattle.films.specs.Texts.{change_line, first_line, item_texts, step_line}
+use Rattle.films.specs.Texts.{change_line, first_line, item_texts, said, step_line}
 use Rattle.films.specs.Worked.{worked}
 use Rattle.films.specs.declared.signs.Surface.TheVariants.{OnCard, OnPaper}
 use Rattle.films.proofs.ChangeLaw.{change_played}
 use Rattle.films.proofs.SignsRead.{signs_clean}
-use Rattle.films.proofs.TextsRead.{AreItems, before_read, both_items, change_again, none_read, worked_other}
+use Rattle.films.proofs.StatementsRead.{lead_other}
+use Rattle.films.proofs.TextsRead.{AreItems, before_read, both_items, change_again, none_read}
 
 -- ---- the numbers of a machine can be read
 
@@ -54,7 +56,7 @@ small_at [] all k = omega arith
 small_at (n ∷ ns) all zero = all.0
 small_at (n ∷ ns) all (suc k) = small_at ns all.1 k
 
-compared_small : (c : Compared) → compared_number c < 2 ^ 64
+compared_small : (c : Compared) → compare_number c < 2 ^ 64
 compared_small Equal = omega arith
 compared_small Low = omega arith
 compared_small High = omega arith
@@ -241,20 +243,20 @@ changes_made lines cards m (suc n) =
 next : (m : State) (n : ℕ) → step (after m n) ≡ after m (n + 1)
 next m n = sym (after_one (after m n)) ∙ after-after m n 1
 
-steps_read : (lines cards : ℕ) (m : State) (n : ℕ) (rest : List ℕ) → ((k : ℕ) → k ≤ n → IsReadable (after m k))
-    → changes_read (step_lines lines cards m n ++ rest) ≡ changes_made lines cards m n ++ changes_read rest
+steps_read : (names : Option Named) (lines cards : ℕ) (m : State) (n : ℕ) (rest : List ℕ) → ((k : ℕ) → k ≤ n → IsReadable (after m k))
+    → changes_read (step_lines names lines cards m n ++ rest) ≡ changes_made lines cards m n ++ changes_read rest
 unfolding step_lines step_line changes_made
-steps_read lines cards m zero rest can = refl
-steps_read lines cards m (suc n) rest can =
+steps_read names lines cards m zero rest can = refl
+steps_read names lines cards m (suc n) rest can =
     let x = after m n in
     let items = change (frame_of lines cards x) (frame_of lines cards (step x)) in
-    let line = change_line (worked x ++ item_texts items) in
+    let line = change_line (said names x ++ worked x ++ item_texts items) in
     let one : n + 1 ≡ suc n = omega arith in
     let here : IsReadable (step x) = subst IsReadable (sym (next m n ∙ ap (after m) one)) (can (suc n) (omega arith)) in
-    let lead = worked_other x in
-    ap changes_read (append_assoc (step_lines lines cards m n) line rest)
-    ∙ steps_read lines cards m n (line ++ rest) (λ k within. can k (omega arith))
-    ∙ ap (λ read. changes_made lines cards m n ++ read) (change_again (worked x) items rest lead.0 lead.1 (change_is_read (frame_of lines cards x) lines cards (step x) here))
+    let lead = lead_other names x in
+    ap changes_read (append_assoc (step_lines names lines cards m n) line rest)
+    ∙ steps_read names lines cards m n (line ++ rest) (λ k within. can k (omega arith))
+    ∙ ap (λ read. changes_made lines cards m n ++ read) (change_again (said names x ++ worked x) items rest lead.0 lead.1 (change_is_read (frame_of lines cards x) lines cards (step x) here))
     ∙ sym (append_assoc (changes_made lines cards m n) (items ∷ []) (changes_read rest))
 
 first_read : (lines cards : ℕ) (m : State) (rest : List ℕ) → IsReadable m
@@ -271,10 +273,10 @@ film_read names made m steps can =
     let l = lines_before m in
     let c = cards_before m in
     let first = change (nothing (length m.works.storage)) (frame_of l c m) in
-    before_read names made m.works.units.hopper.taken (after m steps) (change_lines m steps)
-    ∙ first_read l c m (step_lines l c m steps) (can 0 (omega arith))
-    ∙ ap (λ text. first ∷ changes_read text) (sym (append-nil (step_lines l c m steps)))
-    ∙ ap (λ read. first ∷ read) (steps_read l c m steps [] can ∙ ap (λ read. changes_made l c m steps ++ read) none_read ∙ append-nil (changes_made l c m steps))
+    before_read names made m.works.units.hopper.taken (after m steps) (change_lines names m steps)
+    ∙ first_read l c m (step_lines names l c m steps) (can 0 (omega arith))
+    ∙ ap (λ text. first ∷ changes_read text) (sym (append-nil (step_lines names l c m steps)))
+    ∙ ap (λ read. first ∷ read) (steps_read names l c m steps [] can ∙ ap (λ read. changes_made l c m steps ++ read) none_read ∙ append-nil (changes_made l c m steps))
 
 -- ---- the changes are played
 

@@ -22,7 +22,7 @@ use Rattle.films.specs.declared.films.FilmOptions.{FilmOptions}
 pub is_film : (names : Option Named) (options : FilmOptions) (m x y z : State) (film : Film) (changes : List ℕ) (more : ℕ)
     → x ≡ after m (passed_over options) → y ≡ after x (most_steps options) → z ≡ after y (rest_of options)
     → film.made ≡ attempts m (passed_over options) → film.steps ≡ attempts x (most_steps options) → more ≡ attempts y (rest_of options)
-    → changes ≡ change_lines x film.steps → length changes ≤ most_bytes
+    → changes ≡ change_lines names x film.steps → length changes ≤ most_bytes
     → film.text.items ≡ text_before names film.made x.works.units.hopper.taken y ++ changes
     → film.standing ≡ standing_of y → film.cause ≡ end_cause y → film.instructions ≡ film.made + film.steps + more → film.report ≡ report_of z
     → IsFilm names options m film
@@ -37,7 +37,7 @@ is_film names options m x y z film changes more is_x is_y is_z is_made is_steps 
     let steps_is : film.steps ≡ steps = is_steps ∙ ap (λ (s : State). attempts s most) is_x in
     let y_at : y ≡ after b most = is_y ∙ ap (λ (s : State). after s most) is_x in
     let y_is : y ≡ ended options m = y_at ∙ sym (after_attempts b most) in
-    let lines : changes ≡ change_lines b steps = is_changes ∙ ap (λ (s : State). change_lines s film.steps) is_x ∙ ap (change_lines b) steps_is in
+    let lines : changes ≡ change_lines names b steps = is_changes ∙ ap (λ (s : State). change_lines names s film.steps) is_x ∙ ap (change_lines names b) steps_is in
     record {
       text = is_text
           ∙ ap (λ n. text_before names n x.works.units.hopper.taken y ++ changes) is_made

@@ -7,6 +7,7 @@ mod StepLemmas
 mod ItemsRead
 mod SignsRead
 mod TextsRead
+mod StatementsRead
 mod FilmLaw
 mod FilmLemmas
 mod RunLaw

@@ -8,7 +8,7 @@ use Rattle.core_store.specs.Storage.{positions_of}
 use Rattle.core_store.specs.declared.sizes.Size.{Size}
 use Rattle.units.specs.declared.profiles.Profile.TheVariants.{Selecting}
 use Rattle.units.specs.declared.switches.Switches.{Switches}
-use Rattle.machine.specs.Run.{State, after, loaded}
+use Rattle.machine.specs.Run.{after, loaded}
 use Rattle.machine.proofs.InRange.{after_in_range, loaded_in_range}
 use Rattle.machine.proofs.Steps.{after-after, stems_after, stems_same}
 use Rattle.run_traces.specs.Names.{Named}

@@ -1,8 +1,8 @@
 -- the tables of signs
-use Rattle.std.proofs.Common.{◌≡◌, ℕ, ◌<◌, ◌≤◌, ◌&&◌, Bool, true, false, if◌then◌else◌, refl, sym, ap, ◌∙◌, arith, eqb, get_or}
+use Rattle.std.proofs.Common.{◌≡◌, ℕ, ◌<◌, ◌≤◌, ◌==◌, ◌&&◌, Bool, true, false, if◌then◌else◌, refl, sym, ap, ◌∙◌, arith, eqb, get_or}
 use Rattle.std.proofs.Math.Decide.{dec_lt}
 use Rattle.std.specs.List.{list_any}
-use Rattle.std.proofs.lemmas.Bool.{eqb-true, eq-eqb}
+use Rattle.std.proofs.lemmas.Bool.{eqb-true, eq-eqb, ne_eqb}
 use Rattle.std.proofs.lemmas.List.{get_or_past}
 use Rattle.bcd.proofs.Tables.{at_each}
 use Rattle.bcd.specs.Table.{glyph_of, glyphs}
@@ -19,6 +19,17 @@ sign_at n h = eqb-true _ _ (at_each (λ k. eqb (get_or SIGNS k 0) (sign_of_code 
 pub printed_at : (n : ℕ) → n < 64 → get_or SIGNS_PRINTED n 0 ≡ sign_of (shown n)
 unfolding sign_of shown glyph_of
 printed_at n h = eqb-true _ _ (at_each (λ k. eqb (get_or SIGNS_PRINTED k 0) (sign_of (shown k))) 64 refl n h)
+
+-- ---- the signs of glyphs
+
+pub other : (glyph : ℕ) → (32 == glyph) ≡ false → (38 == glyph) ≡ false → (92 == glyph) ≡ false → (62 == glyph) ≡ false → (60 == glyph) ≡ false → (34 == glyph) ≡ false → sign_of glyph ≡ glyph
+unfolding sign_of
+other glyph blank and back more less quote = rw (blank, and, back, more, less, quote) refl
+
+pub above : (glyph : ℕ) → 128 ≤ glyph → sign_of glyph ≡ glyph
+above glyph high =
+    let differs : (n : ℕ) → n < 128 → (n == glyph) ≡ false = λ n low. ne_eqb n glyph (λ is. omega (arith, is, low, high)) in
+    other glyph (differs 32 (omega arith)) (differs 38 (omega arith)) (differs 92 (omega arith)) (differs 62 (omega arith)) (differs 60 (omega arith)) (differs 34 (omega arith))
 
 -- ---- the sign of the blank
 

@@ -1,6 +1,6 @@
 -- the lines of a film's steps
 use Rattle.std.proofs.Common.{◌≡◌, ℕ, zero, suc, ◌+◌, ◌-◌, ◌<◌, ◌≤◌, ◌==◌, Bool, true, false, cond, List, [], ◌∷◌, ◌++◌, length, length-append, map, drop, replicate, refl, sym, ap, ◌∙◌, arith, append-nil, append_assoc}
-use Rattle.std.specs.Prelude.{Some, None, nat_lt, unwrap_or}
+use Rattle.std.specs.Prelude.{Option, Some, None, nat_lt, unwrap_or}
 use Rattle.std.specs.List.{position_or_len}
 use Rattle.std.proofs.Math.Decide.{dec_lt}
 use Rattle.std.proofs.lemmas.List.{drop-drop, drop-map, length-drop, length-map}
@@ -9,10 +9,12 @@ use Rattle.std.proofs.lemmas.List.Sums.{prefix_len-le-length}
 use Rattle.core_store.specs.Storage.{Storage, blank_storage}
 use Rattle.machine.specs.Run.{State, after, attempts, is_running, lines_of, step}
 use Rattle.machine.proofs.Steps.{after-after, after_one, after_stopped, attempts-add, attempts_one, attempts_stopped, stems_after, stems_same}
+use Rattle.run_traces.specs.Names.{Named}
+use Rattle.run_traces.specs.Statements.{statement_next}
 use Rattle.films.specs.Changes.{Item, change, items_since, printed, punched}
 use Rattle.films.specs.Frames.{card_shown, cards_before, cards_of, form_of, frame_of, line_shown, lines_before, nothing, number_count, numbers_of, shown_of}
 use Rattle.films.specs.Steps.{Fits, IsMost, change_lines, most_bytes, step_lines}
-use Rattle.films.specs.Texts.{change_line, first_line, item_texts, items_text, spaced, step_line, words_text}
+use Rattle.films.specs.Texts.{change_line, first_line, item_texts, items_text, said, spaced, statement_words, step_line, words_text}
 use Rattle.films.specs.Worked.{fields_spans, instruction_span, place_of, worked}
 use Rattle.films.specs.declared.filming.Place.{Place}
 use Rattle.films.specs.declared.items.Shown.{Shown}
@@ -31,13 +33,16 @@ line_pushed o a b d words is_a is_b is_d =
     ∙ ap (λ t. t ++ 10 ∷ []) (is_b ∙ ap (λ t. t ++ words_text words) is_a ∙ append_assoc o (67 ∷ []) (words_text words))
     ∙ append_assoc o (67 ∷ words_text words) (10 ∷ [])
 
-pub step_line_pushed : (o a b c d e : List ℕ) (is fs : List (List ℕ)) (items : List Item) → a ≡ o ++ 67 ∷ [] → b ≡ a ++ words_text is → c ≡ b ++ words_text fs
-    → d ≡ c ++ items_text items → e ≡ d ++ 10 ∷ [] → e ≡ o ++ change_line (is ++ fs ++ item_texts items)
-step_line_pushed o a b c d e is fs items is_a is_b is_c is_d is_e =
-    line_pushed o a d e (is ++ fs ++ item_texts items) is_a
-    (is_d ∙ ap (λ t. t ++ items_text items) (is_c ∙ ap (λ t. t ++ words_text fs) is_b ∙ append_assoc a (words_text is) (words_text fs) ∙ ap (λ t. a ++ t) (sym (words_append is fs)))
-    ∙ append_assoc a (words_text (is ++ fs)) (items_text items)
-    ∙ ap (λ t. a ++ t) (sym (words_append (is ++ fs) (item_texts items))))
+-- words behind a text, and more words behind these
+then_words : (a b c : List ℕ) (xs ys : List (List ℕ)) → b ≡ a ++ words_text xs → c ≡ b ++ words_text ys → c ≡ a ++ words_text (xs ++ ys)
+then_words a b c xs ys is_b is_c =
+    is_c ∙ ap (λ t. t ++ words_text ys) is_b ∙ append_assoc a (words_text xs) (words_text ys) ∙ ap (λ t. a ++ t) (sym (words_append xs ys))
+
+pub step_line_pushed : (o a s b c d e : List ℕ) (ss is fs : List (List ℕ)) (items : List Item) → a ≡ o ++ 67 ∷ [] → s ≡ a ++ words_text ss → b ≡ s ++ words_text is → c ≡ b ++ words_text fs
+    → d ≡ c ++ items_text items → e ≡ d ++ 10 ∷ [] → e ≡ o ++ change_line (ss ++ (is ++ fs) ++ item_texts items)
+step_line_pushed o a s b c d e ss is fs items is_a is_s is_b is_c is_d is_e =
+    line_pushed o a d e (ss ++ (is ++ fs) ++ item_texts items) is_a
+    (then_words a c d (ss ++ (is ++ fs)) (item_texts items) (then_words a s c ss (is ++ fs) is_s (then_words s b c is fs is_b is_c)) is_d)
     is_e
 
 -- ---- a change between two frames of a machine
@@ -65,12 +70,12 @@ unfolding change frame_of
 first_since lines cards size m =
     rw (map_twice printed line_shown (drop lines (lines_of m)), map_twice punched card_shown (drop cards (cards_of m))) refl
 
-pub step_since : (lines cards : ℕ) (m : State) → lines ≤ length (lines_of m) → cards ≤ length (cards_of m)
-    → change_line (instruction_span m.works.registers.i (word_length m.works.storage m.works.registers.i) ++ fields_spans (fields_worked m.works) (step m)
-    ++ item_texts (items_since (numbers_of m) (length (lines_of m)) (length (cards_of m)) m.works.storage (step m))) ≡ step_line lines cards m
-unfolding step_line worked
-step_since lines cards m in_lines in_cards =
-    let front = instruction_span m.works.registers.i (word_length m.works.storage m.works.registers.i) ++ fields_spans (fields_worked m.works) (step m) in
+pub step_since : (names : Option Named) (lines cards : ℕ) (m : State) → lines ≤ length (lines_of m) → cards ≤ length (cards_of m)
+    → change_line (statement_words (statement_next names m) ++ (instruction_span m.works.registers.i (word_length m.works.storage m.works.registers.i) ++ fields_spans (fields_worked m.works) (step m))
+    ++ item_texts (items_since (numbers_of m) (length (lines_of m)) (length (cards_of m)) m.works.storage (step m))) ≡ step_line names lines cards m
+unfolding step_line said worked
+step_since names lines cards m in_lines in_cards =
+    let front = statement_words (statement_next names m) ++ (instruction_span m.works.registers.i (word_length m.works.storage m.works.registers.i) ++ fields_spans (fields_worked m.works) (step m)) in
     ap (λ items. change_line (front ++ item_texts items)) (sym (change_since lines cards m (step m) in_lines in_cards))
 
 pub first_line_pushed : (lines cards : ℕ) (m : State) (blank : Storage) (o a b d : List ℕ) → blank ≡ blank_storage (length m.works.storage) → a ≡ o ++ 67 ∷ []
@@ -113,57 +118,57 @@ cards_before_within m = omega arith
 
 -- ---- one step more, and how many there are
 
-pub change_more : (m : State) (made : ℕ) (before new : List ℕ) → before ≡ change_lines m made
-    → new ≡ before ++ step_line (lines_before m) (cards_before m) (after m made) → new ≡ change_lines m (made + 1)
+pub change_more : (names : Option Named) (m : State) (made : ℕ) (before new : List ℕ) → before ≡ change_lines names m made
+    → new ≡ before ++ step_line names (lines_before m) (cards_before m) (after m made) → new ≡ change_lines names m (made + 1)
 unfolding change_lines step_lines
-change_more m made before new is more =
+change_more names m made before new is more =
     let l = lines_before m in
     let c = cards_before m in
     let one : suc made ≡ made + 1 = omega arith in
-    more ∙ ap (λ t. t ++ step_line l c (after m made)) is
-    ∙ append_assoc (first_line l c m) (step_lines l c m made) (step_line l c (after m made))
-    ∙ ap (λ n. first_line l c m ++ step_lines l c m n) one
+    more ∙ ap (λ t. t ++ step_line names l c (after m made)) is
+    ∙ append_assoc (first_line l c m) (step_lines names l c m made) (step_line names l c (after m made))
+    ∙ ap (λ n. first_line l c m ++ step_lines names l c m n) one
 
-pub change_none : (m : State) → change_lines m 0 ≡ first_line (lines_before m) (cards_before m) m
+pub change_none : (names : Option Named) (m : State) → change_lines names m 0 ≡ first_line (lines_before m) (cards_before m) m
 unfolding change_lines step_lines
-change_none m = append-nil (first_line (lines_before m) (cards_before m) m)
+change_none names m = append-nil (first_line (lines_before m) (cards_before m) m)
 
 pub next_is : (m : State) (made : ℕ) → step (after m made) ≡ after m (made + 1)
 next_is m made = sym (after_one (after m made)) ∙ after-after m made 1
 
-steps_longer : (l c : ℕ) (m : State) (a b : ℕ) → a ≤ b → length (step_lines l c m a) ≤ length (step_lines l c m b)
+steps_longer : (names : Option Named) (l c : ℕ) (m : State) (a b : ℕ) → a ≤ b → length (step_lines names l c m a) ≤ length (step_lines names l c m b)
 unfolding step_lines
-steps_longer l c m a zero within = let none : a ≡ zero = omega arith in omega (arith, ap (λ n. length (step_lines l c m n)) none)
-steps_longer l c m a (suc b) within =
+steps_longer names l c m a zero within = let none : a ≡ zero = omega arith in omega (arith, ap (λ n. length (step_lines names l c m n)) none)
+steps_longer names l c m a (suc b) within =
     elim (dec_lt b a) [
-      | yes all ↦ let whole : a ≡ suc b = omega arith in omega (arith, ap (λ n. length (step_lines l c m n)) whole)
-      | no few ↦ omega (arith, steps_longer l c m a b (omega arith), length-append (step_lines l c m b) (step_line l c (after m b)))
+      | yes all ↦ let whole : a ≡ suc b = omega arith in omega (arith, ap (λ n. length (step_lines names l c m n)) whole)
+      | no few ↦ omega (arith, steps_longer names l c m a b (omega arith), length-append (step_lines names l c m b) (step_line names l c (after m b)))
     ]
 
-lines_longer : (m : State) (a b : ℕ) → a ≤ b → length (change_lines m a) ≤ length (change_lines m b)
+lines_longer : (names : Option Named) (m : State) (a b : ℕ) → a ≤ b → length (change_lines names m a) ≤ length (change_lines names m b)
 unfolding change_lines
-lines_longer m a b within =
+lines_longer names m a b within =
     let l = lines_before m in
     let c = cards_before m in
-    omega (arith, steps_longer l c m a b within, length-append (first_line l c m) (step_lines l c m a), length-append (first_line l c m) (step_lines l c m b))
+    omega (arith, steps_longer names l c m a b within, length-append (first_line l c m) (step_lines names l c m a), length-append (first_line l c m) (step_lines names l c m b))
 
 -- the greatest number of steps that fits, where one step more does not
-pub is_most : (m : State) (asked made : ℕ) (text : List ℕ) → made + 1 ≤ asked → Fits m made → text ≡ change_lines m (made + 1) → most_bytes < length text → IsMost m asked made
-is_most m asked made text within fits is long = record {
-  too_long = λ short. omega (arith, short, lines_longer m (made + 1) asked within, ap length is, long);
+pub is_most : (names : Option Named) (m : State) (asked made : ℕ) (text : List ℕ) → made + 1 ≤ asked → Fits names m made → text ≡ change_lines names m (made + 1) → most_bytes < length text → IsMost names m asked made
+is_most names m asked made text within fits is long = record {
+  too_long = λ short. omega (arith, short, lines_longer names m (made + 1) asked within, ap length is, long);
   fits = λ some. fits;
   greatest = λ other short. elim (dec_lt made other) [
-    | yes more ↦ absurd (omega (arith, short, lines_longer m (made + 1) other (omega arith), ap length is, long))
+    | yes more ↦ absurd (omega (arith, short, lines_longer names m (made + 1) other (omega arith), ap length is, long))
     | no few ↦ omega arith
   ];
 }
 
 -- none fits
-pub none_fits : (m : State) (asked : ℕ) (text : List ℕ) → text ≡ change_lines m 0 → most_bytes < length text → IsMost m asked 0
-none_fits m asked text is long = record {
-  too_long = λ short. omega (arith, short, lines_longer m 0 asked (omega arith), ap length is, long);
+pub none_fits : (names : Option Named) (m : State) (asked : ℕ) (text : List ℕ) → text ≡ change_lines names m 0 → most_bytes < length text → IsMost names m asked 0
+none_fits names m asked text is long = record {
+  too_long = λ short. omega (arith, short, lines_longer names m 0 asked (omega arith), ap length is, long);
   fits = λ some. absurd (omega arith);
-  greatest = λ other short. absurd (omega (arith, short, lines_longer m 0 other (omega arith), ap length is, long));
+  greatest = λ other short. absurd (omega (arith, short, lines_longer names m 0 other (omega arith), ap length is, long));
 }
 
 -- a machine that stopped before all steps were made
@@ -197,18 +202,18 @@ pub size_within : (m now : State) (storage : Storage) → storage ≡ m.works.st
 size_within m now storage is after_it =
     ap length is ∙ sym (size_stays m) ∙ ap (λ (x : State). length x.works.storage) (sym after_it)
 
-pub step_text : (place : Place) (shown : Shown) (storage : Storage) (m now : State) (lines cards : ℕ) → place ≡ place_of m → shown ≡ shown_of m → storage ≡ m.works.storage → now ≡ step m
-    → lines ≤ length (lines_of m) → cards ≤ length (cards_of m)
-    → change_line (instruction_span place.i place.count ++ fields_spans place.fields now ++ item_texts (items_since shown.numbers shown.lines shown.cards storage now)) ≡ step_line lines cards m
-step_text place shown storage m now lines cards is_place is_shown is_storage is_now in_lines in_cards =
-    ap (λ (p : Place). change_line (instruction_span p.i p.count ++ fields_spans p.fields now ++ item_texts (items_since shown.numbers shown.lines shown.cards storage now))) is_place
-    ∙ ap (λ (s : Shown). change_line (instruction_span m.works.registers.i (word_length m.works.storage m.works.registers.i) ++ fields_spans (fields_worked m.works) now
-    ++ item_texts (items_since s.numbers s.lines s.cards storage now))) is_shown
-    ∙ ap (λ (s : Storage). change_line (instruction_span m.works.registers.i (word_length m.works.storage m.works.registers.i) ++ fields_spans (fields_worked m.works) now
-    ++ item_texts (items_since (numbers_of m) (length (lines_of m)) (length (cards_of m)) s now))) is_storage
-    ∙ ap (λ (x : State). change_line (instruction_span m.works.registers.i (word_length m.works.storage m.works.registers.i) ++ fields_spans (fields_worked m.works) x
-    ++ item_texts (items_since (numbers_of m) (length (lines_of m)) (length (cards_of m)) m.works.storage x))) is_now
-    ∙ step_since lines cards m in_lines in_cards
+pub step_text : (names : Option Named) (place : Place) (shown : Shown) (statement : List ℕ) (storage : Storage) (m now : State) (lines cards : ℕ) → statement ≡ statement_next names m → place ≡ place_of m
+    → shown ≡ shown_of m → storage ≡ m.works.storage → now ≡ step m → lines ≤ length (lines_of m) → cards ≤ length (cards_of m)
+    → change_line (statement_words statement ++ (instruction_span place.i place.count ++ fields_spans place.fields now) ++ item_texts (items_since shown.numbers shown.lines shown.cards storage now)) ≡ step_line names lines cards m
+step_text names place shown statement storage m now lines cards is_statement is_place is_shown is_storage is_now in_lines in_cards =
+    let line = λ (w : List ℕ) (p : Place) (s : Shown) (c : Storage) (x : State).
+    change_line (statement_words w ++ (instruction_span p.i p.count ++ fields_spans p.fields x) ++ item_texts (items_since s.numbers s.lines s.cards c x)) in
+    ap (λ w. line w place shown storage now) is_statement
+    ∙ ap (λ p. line (statement_next names m) p shown storage now) is_place
+    ∙ ap (λ s. line (statement_next names m) (place_of m) s storage now) is_shown
+    ∙ ap (λ c. line (statement_next names m) (place_of m) (shown_of m) c now) is_storage
+    ∙ ap (λ x. line (statement_next names m) (place_of m) (shown_of m) m.works.storage x) is_now
+    ∙ step_since names lines cards m in_lines in_cards
 
 -- ---- where a film begins
 
@@ -226,8 +231,8 @@ lines_here m x made is = omega (arith, lines_before_within m, lines_stay m made,
 pub cards_here : (m x : State) (made : ℕ) → x ≡ after m made → cards_before m ≤ length (cards_of x)
 cards_here m x made is = omega (arith, cards_before_within m, cards_stay m made, ap (λ (y : State). length (cards_of y)) is)
 
-pub first_is : (m p : State) (old new : List ℕ) → old ≡ [] → p ≡ m → new ≡ old ++ first_line (lines_before p) (cards_before p) p → new ≡ change_lines m 0
-first_is m p old new empty picture is =
+pub first_is : (names : Option Named) (m p : State) (old new : List ℕ) → old ≡ [] → p ≡ m → new ≡ old ++ first_line (lines_before p) (cards_before p) p → new ≡ change_lines names m 0
+first_is names m p old new empty picture is =
     is ∙ ap (λ o. o ++ first_line (lines_before p) (cards_before p) p) empty
     ∙ ap (λ (x : State). first_line (lines_before x) (cards_before x) x) picture
-    ∙ sym (change_none m)
+    ∙ sym (change_none names m)

@@ -38,7 +38,7 @@ pub both_items : (xs ys : List Item) → AreItems xs → AreItems ys → AreItem
 both_items [] ys front back = back
 both_items (x ∷ xs) ys front back = (front.0, both_items xs ys front.1 back)
 
-both_words : (xs ys : List (List ℕ)) → AreClean xs → AreClean ys → AreClean (xs ++ ys)
+pub both_words : (xs ys : List (List ℕ)) → AreClean xs → AreClean ys → AreClean (xs ++ ys)
 both_words [] ys front back = back
 both_words (x ∷ xs) ys front back = (front.0, both_words xs ys front.1 back)
 

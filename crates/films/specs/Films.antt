@@ -71,7 +71,7 @@ text_before names made taken end = size_lines (length end.works.storage) made
 -- a source
 unfoldable pub film_text : Option Named → ℕ → State → ℕ → List ℕ
 film_text names made m steps =
-    text_before names made m.works.units.hopper.taken (after m steps) ++ change_lines m steps
+    text_before names made m.works.units.hopper.taken (after m steps) ++ change_lines names m steps
 
 -- ---- which steps a film has
 
@@ -108,7 +108,7 @@ pub record IsFilm (names : Option Named) (options : FilmOptions) (m : State) (fi
   where
     pub text : film.text.items
         ≡ film_text names (attempts m (passed_over options)) (begun options m) (steps_of options m)
-    pub short : length (change_lines (begun options m) (steps_of options m)) ≤ most_bytes
+    pub short : length (change_lines names (begun options m) (steps_of options m)) ≤ most_bytes
     pub made : film.made ≡ attempts m (passed_over options)
     pub steps : film.steps ≡ steps_of options m
     pub standing : film.standing ≡ standing_of (ended options m)
@@ -116,6 +116,7 @@ pub record IsFilm (names : Option Named) (options : FilmOptions) (m : State) (fi
     pub instructions : film.instructions ≡ attempts m most_instructions
     pub report : film.report ≡ report_of (after m most_instructions)
 
--- why there is no film of a machine's run
-abbrev pub IsHinderedAt : FilmOptions → State → FilmError → Type 0
-IsHinderedAt options m error = IsHindered (begun options m) (steps_of options m) error
+-- why there is no film of a machine's run, by the names of a source
+abbrev pub IsHinderedAt : Option Named → FilmOptions → State → FilmError → Type 0
+IsHinderedAt names options m error =
+    IsHindered names (begun options m) (steps_of options m) error

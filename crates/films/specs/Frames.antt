@@ -1,19 +1,12 @@
 -- the frames of a film: what a film knows of a machine
-use Rattle.std.specs.Prelude.{ℕ, ◌≡◌, ◌-◌, ◌==◌, Bool, if◌then◌else◌, List, [], ◌∷◌, length, map, take, drop, replicate, position, Option, Some, None, unwrap_or}
+use Rattle.std.specs.Prelude.{ℕ, ◌≡◌, ◌-◌, ◌==◌, Bool, if◌then◌else◌, List, [], ◌∷◌, length, map, take, drop, replicate, position, unwrap_or}
 use Rattle.core_store.specs.Storage.{Storage, blank_storage}
-use Rattle.core_store.specs.declared.checks.Check.{Check}
-use Rattle.core_store.specs.declared.checks.Check.TheVariants.{Address, Instruction, Data, Overlap, ReaderEmpty, PunchFull, PrinterFull}
-use Rattle.core_store.specs.declared.registers.Compared.{Compared}
-use Rattle.core_store.specs.declared.registers.Compared.TheVariants.{Equal, Low, High}
-use Rattle.units.specs.declared.carriage.Motion.{Motion}
-use Rattle.units.specs.declared.carriage.Motion.TheVariants.{Space, DoubleSpace, TripleSpace, SkipToChannel1}
 use Rattle.units.specs.declared.printer.Line.{Line}
 use Rattle.units.specs.declared.punch.Punched.{Punched}
 use Rattle.units.specs.Pockets.{pocket_number}
 use Rattle.units.specs.Units.{made_in_all}
+use Rattle.machine.specs.Numbers.{compare_number, standing_number, waiting_number}
 use Rattle.machine.specs.Run.{State, lines_of}
-use Rattle.machine.specs.declared.standings.Standing.{Standing}
-use Rattle.machine.specs.declared.standings.Standing.TheVariants.{Running, Halted, Checked}
 use Rattle.films.specs.Signs.{signs_on}
 use Rattle.films.specs.declared.items.Shown.{Shown}
 use Rattle.films.specs.declared.signs.Surface.TheVariants.{OnCard, OnPaper}
@@ -41,45 +34,15 @@ pub record Frame : Type 0 where
 abbrev pub number_count : ℕ
 number_count = 14
 
--- how the second operand compared with the first, as a number
-abbrev pub compared_number : Compared → ℕ
-compared_number Equal = 0
-compared_number Low = 1
-compared_number High = 2
-
 -- whether an indicator is on, as a number
 abbrev pub indicator_number : Bool → ℕ
 indicator_number on = if on then 1 else 0
-
--- the order that waits for the next line, as a number
-abbrev pub waiting_number : Option Motion → ℕ
-waiting_number None = 0
-waiting_number (Some Space) = 1
-waiting_number (Some DoubleSpace) = 2
-waiting_number (Some TripleSpace) = 3
-waiting_number (Some SkipToChannel1) = 4
-
--- a check as a number
-abbrev pub check_number : Check → ℕ
-check_number Address = 2
-check_number Instruction = 3
-check_number Data = 4
-check_number Overlap = 5
-check_number ReaderEmpty = 6
-check_number PunchFull = 7
-check_number PrinterFull = 8
-
--- a standing as a number
-abbrev pub standing_number : Standing → ℕ
-standing_number Running = 0
-standing_number Halted = 1
-standing_number (Checked check) = check_number check
 
 -- the numbers of a machine: of its registers, indicators and carriage, how many cards it has read,
 -- the pocket chosen, its standing, and how many lines it has printed and cards punched in all
 unfoldable pub numbers_of : State → List ℕ
 numbers_of m = m.works.registers.i ∷ m.works.registers.a ∷ m.works.registers.b
-    ∷ compared_number m.works.registers.compare
+    ∷ compare_number m.works.registers.compare
     ∷ indicator_number m.works.registers.overflow
     ∷ indicator_number m.works.units.printer.carriage.channel_12
     ∷ waiting_number m.works.units.printer.carriage.waiting

@@ -1,13 +1,15 @@
 -- the texts of a film's changes
-use Rattle.std.specs.Prelude.{ℕ, ◌==◌, Bool, if◌then◌else◌, List, [], ◌∷◌, ◌++◌, length, map, slice_index, codes, decimal}
+use Rattle.std.specs.Prelude.{ℕ, ◌==◌, Bool, if◌then◌else◌, List, [], ◌∷◌, ◌++◌, length, map, slice_index, codes, decimal, Option}
 use Rattle.std.specs.List.{flat_map}
 use Rattle.cards.specs.Files.{line_feed}
 use Rattle.machine.specs.Run.{State, step}
 use Rattle.units.specs.declared.printer.Line.{Line}
 use Rattle.units.specs.declared.punch.Punched.{Punched}
+use Rattle.run_traces.specs.Names.{Named}
+use Rattle.run_traces.specs.Statements.{statement_next}
 use Rattle.films.specs.Changes.{Item, cell_is, change, is_same_cell, number_is, printed, punched}
 use Rattle.films.specs.Frames.{card_shown, frame_of, line_shown, nothing}
-use Rattle.films.specs.Signs.{sign_of_code}
+use Rattle.films.specs.Signs.{sign_of_code, signs_of}
 use Rattle.films.specs.Worked.{worked}
 
 -- the letters of a frame's numbers
@@ -70,7 +72,18 @@ unfoldable pub first_line : ℕ → ℕ → State → List ℕ
 first_line lines cards m = change_line
     (item_texts (change (nothing (length m.works.storage)) (frame_of lines cards m)))
 
--- the line of the step that a machine makes next: the positions at which it works, and its change
-unfoldable pub step_line : ℕ → ℕ → State → List ℕ
-step_line lines cards m = change_line
-    (worked m ++ item_texts (change (frame_of lines cards m) (frame_of lines cards (step m))))
+-- the word for a statement with these glyphs, if there is one: `d` and their signs
+abbrev pub statement_words : List ℕ → List (List ℕ)
+statement_words [] = []
+statement_words (glyph ∷ text) = (codes "d" ++ signs_of (glyph ∷ text)) ∷ []
+
+-- the word for the statement that has the characters of the instruction that a machine attempts
+-- next, by the names of a source; none if no statement has them
+unfoldable pub said : Option Named → State → List (List ℕ)
+said names m = statement_words (statement_next names m)
+
+-- the line of the step that a machine makes next: the statement of its instruction, the positions
+-- at which it works, and its change
+unfoldable pub step_line : Option Named → ℕ → ℕ → State → List ℕ
+step_line names lines cards m = change_line (said names m ++ worked m
+    ++ item_texts (change (frame_of lines cards m) (frame_of lines cards (step m))))

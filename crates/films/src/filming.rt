@@ -1,6 +1,6 @@
 //! The lines of a film's changes.
 
-ghost use Rattle.std.specs.Prelude.{◌≡◌, ◌≤◌, ◌++◌, ◌==◌, ◌+◌, ℕ, [], length, position, unwrap_or, IfErr, IfOk, IfSome, OnOk};
+ghost use Rattle.std.specs.Prelude.{◌≡◌, ◌≤◌, ◌++◌, ◌==◌, ◌+◌, ℕ, [], length, option_copied, position, unwrap_or, IfErr, IfOk, IfSome, OnOk};
 ghost use Rattle.core_store.specs.Storage.{blank_storage, largest_size};
 ghost use Rattle.machine.specs.{
   Run.{after, attempts, is_running, lines_of, step},
@@ -9,7 +9,7 @@ ghost use Rattle.films.specs.{
   Changes.{items_since},
   Frames.{cards_before, cards_of, lines_before, shown_of},
   Steps.{Fits, IsHindered, change_lines, most_bytes},
-  Texts.{change_line, first_line, item_texts, step_line},
+  Texts.{change_line, first_line, item_texts, statement_words, step_line},
   Worked.{fields_spans, instruction_span, place_of},
 };
 
@@ -17,11 +17,13 @@ use crate::films::FilmError;
 use crate::items::{Shown, push_items};
 use crate::numbers::NUMBER_COUNT;
 use crate::spans::{push_fields, push_instruction};
+use crate::statements::{push_statement, statement_next};
 use cards::LINE_FEED;
 use check_causes::{fields_of, word_length};
 use core_store::Core;
 use machine::{Machine, Meter, Parts};
-use std::alloc::AllocError;
+use run_traces::Names;
+use std::alloc::{AllocError, Global};
 use units::Line;
 
 /// The most bytes that the changes of a film have.
@@ -52,10 +54,12 @@ fn place_of<C: Core>(parts: &Parts<C>) -> Place
     }
 }
 
-/// Adds the line of the step that left a machine, from what was shown and from this storage.
+/// Adds the line of the step that left a machine, from what was shown and from this storage, with
+/// the statement of its instruction.
 #[tactic(auto, unfolding(crate::specs::Texts::change_line))]
 fn push_step_line<C: Core>(
     out: &mut Vec<u8>,
+    statement: &[u8],
     place: Place,
     shown: &Shown,
     storage: &C,
@@ -66,11 +70,13 @@ fn push_step_line<C: Core>(
     requires lines { shown.now.lines ≤ length (lines_of parts.now) }
     requires cards { shown.now.cards ≤ length (cards_of parts.now) }
     ensures { OnOk result (out.new.items ≡ out.old.items ++ change_line
-        (instruction_span place.i place.count ++ fields_spans place.fields parts.now
+        (statement_words statement.now
+        ++ (instruction_span place.i place.count ++ fields_spans place.fields parts.now)
         ++ item_texts (items_since shown.now.numbers shown.now.lines shown.now.cards
         (C.cells storage.now) parts.now))) }
 {
     out.push(b'C')?;
+    push_statement(out, statement)?;
     push_instruction(out, place.i, place.count)?;
     push_fields(out, place.fields, parts)?;
     push_items(out, shown, storage, parts)?;
@@ -86,26 +92,32 @@ fn keep<C: Core>(storage: &mut C, parts: &Parts<C>)
     storage.copy_from(&parts.core);
 }
 
-/// Makes a step of a machine that was shown with this storage, and adds its line.
+/// Makes a step of a machine that was shown with this storage, and adds its line, by the names of a
+/// source.
 fn push_step<C: Core>(
+    alloc: Global,
     out: &mut Vec<u8>,
     machine: &mut Machine<C>,
     shown: &mut Shown,
     storage: &mut C,
+    names: Option<&Names>,
 ) -> Result<(), AllocError>
     requires shown { shown.old ≡ shown_of machine.old }
     requires storage { C.cells storage.old ≡ machine.old.works.storage }
     ensures machine { OnOk result (machine.new ≡ step machine.old) }
     ensures line { OnOk result ((lines cards : ℕ) → lines ≤ length (lines_of machine.old) →
         cards ≤ length (cards_of machine.old) →
-        out.new.items ≡ out.old.items ++ step_line lines cards machine.old) }
+        out.new.items ≡ out.old.items
+        ++ step_line (option_copied names.entry) lines cards machine.old) }
     ensures shown { OnOk result (shown.new ≡ shown_of machine.new) }
     ensures storage { OnOk result (C.cells storage.new ≡ machine.new.works.storage) }
 {
-    let place = place_of(machine.parts());
+    let parts = machine.parts();
+    let statement = statement_next(alloc, names, parts)?;
+    let place = place_of(parts);
     machine.step(&mut Meter::new())?;
     let parts = machine.parts();
-    push_step_line(out, place, shown, storage, parts)?;
+    push_step_line(out, &statement, place, shown, storage, parts)?;
     *shown = Shown::of(parts);
     keep(storage, parts);
     Ok(())
@@ -177,29 +189,33 @@ fn runs<C: Core>(parts: &Parts<C>) -> bool
     parts.standing.is_running()
 }
 
-/// Makes the steps of a film whose first frame was added, at most so many, and adds their lines.
-/// Returns how many were made.
+/// Makes the steps of a film whose first frame was added, at most so many, and adds their lines, by
+/// the names of a source. Returns how many were made.
 fn push_steps<C: Core>(
+    alloc: Global,
     out: &mut Vec<u8>,
     machine: &mut Machine<C>,
     storage: &mut C,
+    names: Option<&Names>,
     limit: u32,
 ) -> Result<u32, FilmError>
     requires storage { C.cells storage.old ≡ machine.old.works.storage }
-    requires first { out.old.items ≡ change_lines machine.old 0 }
-    requires fits { Fits machine.old 0 }
+    requires first { out.old.items ≡ change_lines (option_copied names) machine.old 0 }
+    requires fits { Fits (option_copied names) machine.old 0 }
     ensures machine { OnOk result (machine.new ≡ after machine.old limit) }
     ensures steps { IfOk result (λ steps. steps ≡ attempts machine.old limit) }
-    ensures lines { IfOk result (λ steps. out.new.items ≡ change_lines machine.old steps) }
+    ensures lines { IfOk result (λ steps. out.new.items
+        ≡ change_lines (option_copied names.entry) machine.old steps) }
     ensures short { OnOk result (length out.new.items ≤ most_bytes) }
-    ensures too_long { IfErr result (IsHindered machine.old (attempts machine.old limit)) }
+    ensures too_long { IfErr result (IsHindered (option_copied names.entry) machine.old
+        (attempts machine.old limit)) }
 {
     let mut shown = Shown::of(machine.parts());
     for made in 0..limit {
         if !runs(machine.parts()) {
             return Ok(made);
         }
-        push_step(out, machine, &mut shown, storage)?;
+        push_step(alloc, out, machine, &mut shown, storage, names)?;
         if out.len() > MOST_BYTES {
             return Err(FilmError::TooLong { steps: made });
         }
@@ -207,26 +223,30 @@ fn push_steps<C: Core>(
     Ok(limit)
 }
 
-/// Makes the steps of a film of a machine, at most so many, and adds the lines of its changes.
-/// Returns how many were made. `storage` is blank.
+/// Makes the steps of a film of a machine, at most so many, and adds the lines of its changes, by
+/// the names of a source. Returns how many were made. `storage` is blank.
 pub(crate) fn push_changes<C: Core>(
+    alloc: Global,
     out: &mut Vec<u8>,
     machine: &mut Machine<C>,
     storage: &mut C,
+    names: Option<&Names>,
     limit: u32,
 ) -> Result<u32, FilmError>
     requires blank { C.cells storage.old ≡ blank_storage (length machine.old.works.storage) }
     requires empty { out.old.items ≡ [] }
     ensures machine { OnOk result (machine.new ≡ after machine.old limit) }
     ensures steps { IfOk result (λ steps. steps ≡ attempts machine.old limit) }
-    ensures lines { IfOk result (λ steps. out.new.items ≡ change_lines machine.old steps) }
+    ensures lines { IfOk result (λ steps. out.new.items
+        ≡ change_lines (option_copied names.entry) machine.old steps) }
     ensures short { OnOk result (length out.new.items ≤ most_bytes) }
-    ensures too_long { IfErr result (IsHindered machine.old (attempts machine.old limit)) }
+    ensures too_long { IfErr result (IsHindered (option_copied names.entry) machine.old
+        (attempts machine.old limit)) }
 {
     push_first(out, machine.parts(), storage)?;
     if out.len() > MOST_BYTES {
         return Err(FilmError::TooLong { steps: 0 });
     }
     storage.copy_from(&machine.parts().core);
-    push_steps(out, machine, storage, limit)
+    push_steps(alloc, out, machine, storage, names, limit)
 }

@@ -128,7 +128,7 @@ impl Film {
         requires { 0 < length deck.now }
         ensures film { IfOk result (IsFilm (option_copied names.entry) options
             (loaded deck.now size switches Selecting)) }
-        ensures hindered { IfErr result (IsHinderedAt options
+        ensures hindered { IfErr result (IsHinderedAt (option_copied names.entry) options
             (loaded deck.now size switches Selecting)) }
     {
         let mut machine = load(alloc, deck, size, switches)?;
@@ -138,7 +138,14 @@ impl Film {
         let taken = cards_read(machine.parts());
         let mut changes = Vec::new(alloc);
         let limit = options.most_steps();
-        let steps = push_changes(&mut changes, &mut machine, &mut storage, limit)?;
+        let steps = push_changes(
+            alloc,
+            &mut changes,
+            &mut machine,
+            &mut storage,
+            names,
+            limit,
+        )?;
         let parts = machine.parts();
         let standing = parts.standing_at();
         let cause = end_cause(parts);

@@ -3,7 +3,8 @@
 //! A film knows of a machine a frame (`specs/Frames.antt`): its registers, indicators and counts,
 //! its storage, and the lines and cards that it has made. Its text has the first frame, and for each
 //! step the change from one frame to the next (`specs/Changes.antt`): what differs, whatever the
-//! instruction did. The contract for the layer above: the text of a [`Film`] is that of
+//! instruction did. Before these items stand the statement that has the characters of the step's
+//! instruction, if one has them, and the positions at which it works (`specs/Texts.antt`). The contract for the layer above: the text of a [`Film`] is that of
 //! `specs/Films.antt`, of the machine that is loaded, and [`film_page`] returns exactly the page of
 //! `specs/Pages.antt`. A script in the page plays the changes and draws what they give; what it
 //! draws is not proved. The style, the body and the script are constants, which
@@ -26,6 +27,7 @@ mod readers;
 mod scripts;
 mod signs;
 mod spans;
+mod statements;
 mod styles;
 
 pub use films::{Film, FilmError, FilmOptions, instructions_of};

@@ -2,7 +2,7 @@
 
 ghost use Rattle.std.specs.Prelude.{◌≡◌, ◌≤◌, ◌++◌, length, map, take, OnOk};
 ghost use Rattle.units.specs.Listing.{without_trailing_blanks};
-ghost use Rattle.films.specs.Signs.{glyph_on, sign_of, sign_of_code, signs_on};
+ghost use Rattle.films.specs.Signs.{glyph_on, sign_of, sign_of_code, signs_of, signs_on};
 
 use bcd::Code;
 use std::alloc::AllocError;
@@ -67,6 +67,32 @@ impl Surface {
         }
         0
     }
+}
+
+/// The sign of a glyph.
+#[tactic(auto, unfolding(crate::specs::Signs::sign_of))]
+fn sign_of(glyph: u8) -> u8
+    ensures { result ≡ sign_of glyph }
+{
+    match glyph {
+        b' ' => b'~',
+        b'&' => b'a',
+        b'\\' => b'b',
+        b'>' => b'g',
+        b'<' => b'l',
+        b'"' => b'q',
+        _ => glyph,
+    }
+}
+
+/// Adds the signs of glyphs.
+pub(crate) fn push_signs_of(out: &mut Vec<u8>, glyphs: &[u8]) -> Result<(), AllocError>
+    ensures { OnOk result (out.new.items ≡ out.old.items ++ signs_of glyphs.now) }
+{
+    for glyph in glyphs {
+        out.push(sign_of(*glyph))?;
+    }
+    Ok(())
 }
 
 /// Adds the signs of characters.

@@ -35,7 +35,8 @@ ground:#f3e7c4}\n\
 #work{min-width:0;display:grid;gap:.55em;align-content:start}\n\
 section{min-width:0}#all{container-type:inline-size}\n\
 #now{background:#fff;border:1px solid #c9c2ae;padding:.35em .7em .45em}\n\
-#now .m{font-size:1.5em;line-height:1.25;white-space:pre;overflow-wrap:anywhere}\n\
+#now .m{font-size:1.5em;line-height:1.25;white-space:pre-wrap;overflow-wrap:anywhere}#now .m b\
+{display:inline-block}\n\
 #said{min-height:1.45em}#said b{font-weight:bold}#said .bad{color:#a00;font-weight:bold}\n\
 #lamps{display:flex;flex-wrap:wrap;gap:.35em}\n\
 #lamps div{border:1px solid #c9c2ae;background:#fff;padding:.05em .55em .1em;min-width:4.2em}\n\
@@ -103,9 +104,9 @@ ion:static;max-height:21em;margin-bottom:.6em}header{padding:.4em .6em .2em}\n\
 rea-inset-bottom));border-width:1px 0 0;gap:.3em}\n\
 #place{flex-basis:calc(100% - 8em);order:-2}#count{order:-1;min-width:7em}body{padding-bottom:\
 11em}#keys button,#keys select{flex:1 0 auto;min-height:44px}}\n\
-@media(max-width:600px){body{font-size:15px}#now .m{font-size:1.25em}#source li{font-size:11.5\
-px}#source{max-height:15em}#cards{grid-template-columns:1fr}.row{grid-template-columns:3em 1fr\
-}}\n\
+@media(max-width:600px){body{font-size:15px}#now .m{font-size:1.25em;min-height:2.5em}#source \
+li{font-size:11.5px}#source{max-height:15em}#cards{grid-template-columns:1fr}.row{grid-templat\
+e-columns:3em 1fr}}\n\
 @media print{#keys{display:none}body{background:#fff;padding:0;font-size:11px}main{display:blo\
 ck;padding:0 .5em}#source{position:static;max-height:none;overflow:visible;border:0}#source li\
 {font-size:8px}#source li:not(.near){display:none}*{-webkit-print-color-adjust:exact;print-col\

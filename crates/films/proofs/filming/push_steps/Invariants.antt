@@ -1,4 +1,5 @@
 use Rattle.std.proofs.Common.{◌≡◌, ◌≤◌, length}
+use Rattle.std.specs.Prelude.{option_copied}
 use Rattle.machine.specs.Run.{after, attempts}
 use Rattle.films.specs.Frames.{shown_of}
 use Rattle.films.specs.Steps.{change_lines, most_bytes}
@@ -8,7 +9,7 @@ abbrev pub invariant-loop-made : goal.invariant-loop-made
 invariant-loop-made g l = record {
   machine : l.machine ≡ after l.fn.machine l.made;
   attempts : attempts l.fn.machine l.made ≡ l.made;
-  lines : l.out.items ≡ change_lines l.fn.machine l.made;
+  lines : l.out.items ≡ change_lines (option_copied l.names) l.fn.machine l.made;
   fits : length l.out.items ≤ most_bytes;
   shown : l.shown ≡ shown_of l.machine;
   storage : g.C.Core.cells l.storage ≡ l.machine.works.storage;
