@@ -32,9 +32,14 @@ use Rattle.machine.proofs.Steps.{after-after, after_one, stems_after, stems_same
 use Rattle.run_traces.specs.Names.{Named}
 use Rattle.films.specs.Changes.{Item, all_played, cell_is, cell_items, change, differences, is_same_cell, number_is, number_items, played, printed, punched}
 use Rattle.films.specs.Films.{film_text}
+<<<<<<< HEAD
 use Rattle.machine.specs.Numbers.{check_number, compare_number, standing_number, waiting_number}
 use Rattle.films.specs.Frames.{ComesBehind, Frame, card_shown, cards_before, cards_of, frame_of, indicator_number, line_shown, lines_before, nothing, numbers_of}
 use Rattle.films.specs.Laws.{IsReadable}
+=======
+use Rattle.films.specs.Frames.{ComesBehind, Frame, card_shown, cards_before, cards_of, check_number, compared_number, frame_of, indicator_number, line_shown, lines_before, nothing, numbers_of, standing_number, waiting_number}
+use Rattle.films.specs.Laws.{IsReadable, Shows}
+>>>>>>> h1
 use Rattle.films.specs.Reading.{changes_read}
 use Rattle.films.specs.Steps.{change_lines, step_lines}
 use Rattle.films.specs.Texts.{change_line, first_line, item_texts, said, step_line}
@@ -353,9 +358,8 @@ made_first lines cards m n (suc steps) within =
     ]
 
 -- the changes that are read of a film, played one after the other
-pub film_again : (names : Option Named) (made : ℕ) (m : State) (steps n : ℕ) → ((k : ℕ) → k ≤ steps → IsReadable (after m k)) → n ≤ steps
-    → all_played (nothing (length m.works.storage)) (take (n + 1) (changes_read (film_text names made m steps))) ≡ frame_of (lines_before m) (cards_before m) (after m n)
-film_again names made m steps n can within =
+pub film_again : (names : Option Named) (made : ℕ) (m : State) (steps : ℕ) → ((k : ℕ) → k ≤ steps → IsReadable (after m k)) → Shows (film_text names made m steps) m steps
+film_again names made m steps can = λ n within.
     let l = lines_before m in
     let c = cards_before m in
     let first = change (nothing (length m.works.storage)) (frame_of l c m) in
