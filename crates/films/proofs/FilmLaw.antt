@@ -32,14 +32,9 @@ use Rattle.machine.proofs.Steps.{after-after, after_one, stems_after, stems_same
 use Rattle.run_traces.specs.Names.{Named}
 use Rattle.films.specs.Changes.{Item, all_played, cell_is, cell_items, change, differences, is_same_cell, number_is, number_items, played, printed, punched}
 use Rattle.films.specs.Films.{film_text}
-<<<<<<< HEAD
 use Rattle.machine.specs.Numbers.{check_number, compare_number, standing_number, waiting_number}
 use Rattle.films.specs.Frames.{ComesBehind, Frame, card_shown, cards_before, cards_of, frame_of, indicator_number, line_shown, lines_before, nothing, numbers_of}
-use Rattle.films.specs.Laws.{IsReadable}
-=======
-use Rattle.films.specs.Frames.{ComesBehind, Frame, card_shown, cards_before, cards_of, check_number, compared_number, frame_of, indicator_number, line_shown, lines_before, nothing, numbers_of, standing_number, waiting_number}
 use Rattle.films.specs.Laws.{IsReadable, Shows}
->>>>>>> h1
 use Rattle.films.specs.Reading.{changes_read}
 use Rattle.films.specs.Steps.{change_lines, step_lines}
 use Rattle.films.specs.Texts.{change_line, first_line, item_texts, said, step_line}
