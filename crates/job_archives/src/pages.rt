@@ -32,8 +32,9 @@ fn source_in(run: &JobRun) -> Option<&Deck>
 fn switches_of(alloc: Global, run: &JobRun) -> Result<Vec<Switches>, AllocError>
     ensures { IfOk result (λ switches. switches.items ≡ switches_of run.now.job) }
 {
+    let stretches = run.stretches();
     let mut switches = Vec::new(alloc);
-    for stretch in run.stretches() {
+    for stretch in stretches {
         switches.push(stretch.switches)?;
     }
     Ok(switches)

@@ -175,10 +175,10 @@ example:
 
 The digests of each bag are checked. Then its job is run again from deck.text
 and record, and each file is compared with what the job makes; which version of
-the program wrote it does not count. A page.html is not looked at. A line is
-printed for each job, with all that is wrong, and at the end a sum. No bureau's
-file is needed, and nothing is changed. Status 1: something is wrong, or FOLDER
-has what is no job's folder.
+the program wrote it does not count. What a page shows is not looked at. A line
+is printed for each job, with all that is wrong, and at the end a sum. No
+bureau's file is needed, and nothing is changed. Status 1: something is wrong,
+or FOLDER has what is no job's folder.
 ";
 
 /// The text that `restore --help` prints.
