@@ -1,5 +1,5 @@
 -- the lines of attempts
-use Rattle.std.proofs.Common.{◌≡◌, ℕ, zero, suc, ◌+◌, ◌-◌, ◌<◌, ◌≤◌, Bool, true, false, Option, List, [], ◌++◌, if◌then◌else◌, refl, sym, ap, ◌∙◌, arith, append_assoc, append-nil}
+use Rattle.std.proofs.Common.{◌≡◌, ℕ, zero, suc, ◌+◌, ◌-◌, ◌<◌, ◌≤◌, true, false, Option, List, [], ◌++◌, if◌then◌else◌, refl, sym, ap, ◌∙◌, arith, append_assoc, append-nil}
 use Rattle.machine.specs.Run.{State, after, attempts, is_running, step}
 use Rattle.machine.proofs.Attempts.{attempts_on}
 use Rattle.machine.proofs.Steps.{after_stopped, attempts_stopped}
