@@ -1,9 +1,7 @@
 //! A statement as it is shown.
 
-ghost use Rattle.std.specs.Prelude.{◌≡◌, ◌==◌, ◌≤◌, ◌++◌, codes, length, position, IfSome, OnOk};
-ghost use Rattle.bcd.specs.Table.{byte};
+ghost use Rattle.std.specs.Prelude.{◌≡◌, ◌++◌, OnOk};
 ghost use Rattle.autocoder.specs.Listing.{glyphs_of};
-ghost use Rattle.source_reports.specs.OperationNames.{shown_name};
 ghost use Rattle.disassembly.specs.Texts.{behind_blank, statement_text};
 
 use crate::operands::push_operands;
@@ -11,24 +9,8 @@ use crate::statements::Statement;
 use autocoder::push_glyphs;
 use autocoder_layout::Slot;
 use bcd::Code;
+use source_reports::push_operation_name;
 use std::alloc::{AllocError, Global};
-
-/// How many characters of a name come before its first blank.
-fn first_blank(name: &[u8]) -> Option<usize>
-    ensures index { result ≡ position (λ glyph. glyph == byte (codes " ")) name.now }
-    ensures within { IfSome result (λ index. index ≤ length name.now) }
-{
-    name.iter().position(|glyph| *glyph == b' ')
-}
-
-/// Adds a name without the blanks behind it.
-#[tactic(auto, unfolding(source_reports::specs::OperationNames::shown_name))]
-fn push_name(text: &mut Vec<u8>, name: &[u8; 5]) -> Result<(), AllocError>
-    ensures { OnOk result (text.new.items ≡ text.old.items ++ shown_name name.now) }
-{
-    let length = first_blank(name).unwrap_or(5);
-    text.extend_from_slice(&name[..length])
-}
 
 /// Adds characters behind a blank, if there are any.
 fn push_behind_blank(text: &mut Vec<u8>, codes: &[Code]) -> Result<(), AllocError>
@@ -56,6 +38,6 @@ pub fn push_statement(
 {
     let mut operands = Vec::new(alloc);
     push_operands(&mut operands, slots, statement)?;
-    push_name(text, &statement.name)?;
+    push_operation_name(text, &statement.name)?;
     push_behind_blank(text, &operands)
 }

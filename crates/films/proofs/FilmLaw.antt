@@ -34,7 +34,7 @@ use Rattle.films.specs.Changes.{Item, all_played, cell_is, cell_items, change, d
 use Rattle.films.specs.Films.{film_text}
 use Rattle.machine.specs.Numbers.{check_number, compare_number, standing_number, waiting_number}
 use Rattle.films.specs.Frames.{ComesBehind, Frame, card_shown, cards_before, cards_of, frame_of, indicator_number, line_shown, lines_before, nothing, numbers_of}
-use Rattle.films.specs.Laws.{IsReadable}
+use Rattle.films.specs.Laws.{IsReadable, Shows}
 use Rattle.films.specs.Reading.{changes_read}
 use Rattle.films.specs.Steps.{change_lines, step_lines}
 use Rattle.films.specs.Texts.{change_line, first_line, item_texts, said, step_line}
@@ -353,9 +353,8 @@ made_first lines cards m n (suc steps) within =
     ]
 
 -- the changes that are read of a film, played one after the other
-pub film_again : (names : Option Named) (made : ℕ) (m : State) (steps n : ℕ) → ((k : ℕ) → k ≤ steps → IsReadable (after m k)) → n ≤ steps
-    → all_played (nothing (length m.works.storage)) (take (n + 1) (changes_read (film_text names made m steps))) ≡ frame_of (lines_before m) (cards_before m) (after m n)
-film_again names made m steps n can within =
+pub film_again : (names : Option Named) (made : ℕ) (m : State) (steps : ℕ) → ((k : ℕ) → k ≤ steps → IsReadable (after m k)) → Shows (film_text names made m steps) m steps
+film_again names made m steps can = λ n within.
     let l = lines_before m in
     let c = cards_before m in
     let first = change (nothing (length m.works.storage)) (frame_of l c m) in

@@ -1,6 +1,7 @@
 -- the words for what differs, one after the other
-use Rattle.std.proofs.Common.{◌≡◌, ℕ, suc, ◌+◌, ◌==◌, Bool, true, false, if◌then◌else◌, List, [], ◌∷◌, ◌++◌, map, get_or, refl, sym, ap, ◌∙◌, arith, append-nil, append_assoc}
+use Rattle.std.proofs.Common.{◌≡◌, ℕ, suc, ◌+◌, ◌<◌, ◌==◌, Bool, true, false, if◌then◌else◌, List, [], ◌∷◌, ◌++◌, map, get_or, refl, sym, ap, ◌∙◌, arith, append-nil, append_assoc, subst}
 use Rattle.std.specs.List.{flat_map}
+use Rattle.std.proofs.Math.Decide.{dec_lt}
 use Rattle.std.proofs.lemmas.List.{map-append}
 use Rattle.std.proofs.lemmas.List.Concat.{flat_map-append}
 use Rattle.core_store.specs.Storage.{blank_cell}
@@ -53,6 +54,17 @@ pub none_differ : {A : Type 0} (item : ℕ → A → Item) (same : A → A → B
     → start ≡ start ++ items_text (map (λ d. item d.0 d.1) (differences same other old new 0))
 unfolding differences
 none_differ item same other old new start = sym (append-nil start)
+
+-- one more position has one of the 64 characters
+pub held_more : (cells : List (ℕ × Bool)) (n : ℕ) (cell : ℕ × Bool) → ((k : ℕ) → k < n → (get_or cells k blank_cell).0 < 64) → cell ≡ get_or cells n blank_cell → cell.0 < 64
+    → (k : ℕ) → k < n + 1 → (get_or cells k blank_cell).0 < 64
+held_more cells n cell before is low k within =
+    elim (dec_lt k n) [
+      | yes below ↦ before k below
+      | no last ↦
+          let same : n ≡ k = omega arith in
+          subst (λ (c : ℕ × Bool). c.0 < 64) (is ∙ ap (λ p. get_or cells p blank_cell) same) low
+    ]
 
 -- ---- the items of a machine
 

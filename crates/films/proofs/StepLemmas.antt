@@ -1,7 +1,7 @@
 -- the lines of a film's steps
-use Rattle.std.proofs.Common.{◌≡◌, ℕ, zero, suc, ◌+◌, ◌-◌, ◌<◌, ◌≤◌, ◌==◌, Bool, true, false, cond, List, [], ◌∷◌, ◌++◌, length, length-append, map, drop, replicate, refl, sym, ap, ◌∙◌, arith, append-nil, append_assoc}
+use Rattle.std.proofs.Common.{◌≡◌, ℕ, zero, suc, ◌+◌, ◌-◌, ◌<◌, ◌≤◌, ◌==◌, Bool, true, false, cond, List, [], ◌∷◌, ◌++◌, length, length-append, map, drop, replicate, refl, sym, ap, ◌∙◌, arith, append-nil, append_assoc, subst}
 use Rattle.std.specs.Prelude.{Option, Some, None, nat_lt, unwrap_or}
-use Rattle.std.specs.List.{position_or_len}
+use Rattle.std.specs.List.{All, position_or_len}
 use Rattle.std.proofs.Math.Decide.{dec_lt}
 use Rattle.std.proofs.lemmas.List.{drop-drop, drop-map, length-drop, length-map}
 use Rattle.std.proofs.lemmas.List.Concat.{flat_map-append}
@@ -188,6 +188,27 @@ asked_more m made limit within all =
     let whole : (made + 1) + (limit - (made + 1)) ≡ limit = omega arith in
     omega (arith, all, attempts-add m (made + 1) (limit - (made + 1)), ap (attempts m) whole)
 
+-- ---- what each storage holds
+
+pub after_none : (m : State) → m ≡ after m 0
+unfolding after
+after_none m = refl
+
+pub held_first : (m : State) → All (λ cell. cell.0 < 64) m.works.storage → (k : ℕ) → k ≤ 0 → All (λ cell. cell.0 < 64) (after m k).works.storage
+held_first m held k within =
+    let none : 0 ≡ k = omega arith in
+    subst (λ (x : State). All (λ cell. cell.0 < 64) x.works.storage) (after_none m ∙ ap (after m) none) held
+
+pub held_on : (m next : State) (made : ℕ) → next ≡ after m (made + 1) → ((k : ℕ) → k ≤ made → All (λ cell. cell.0 < 64) (after m k).works.storage) → All (λ cell. cell.0 < 64) next.works.storage
+    → (k : ℕ) → k ≤ made + 1 → All (λ cell. cell.0 < 64) (after m k).works.storage
+held_on m next made is before held k within =
+    elim (dec_lt made k) [
+      | yes last ↦
+          let same : made + 1 ≡ k = omega arith in
+          subst (λ (x : State). All (λ cell. cell.0 < 64) x.works.storage) (is ∙ ap (after m) same) held
+      | no earlier ↦ before k (omega arith)
+    ]
+
 -- ---- the line of a step
 
 pub lines_within : (m now : State) (lines : ℕ) → lines ≡ length (lines_of m) → now ≡ step m → lines ≤ length (lines_of now)
@@ -216,10 +237,6 @@ step_text names place shown statement storage m now lines cards is_statement is_
     ∙ step_since names lines cards m in_lines in_cards
 
 -- ---- where a film begins
-
-pub after_none : (m : State) → m ≡ after m 0
-unfolding after
-after_none m = refl
 
 pub attempts_none : (m : State) → attempts m 0 ≡ 0
 unfolding attempts

@@ -1,6 +1,6 @@
 //! The lines of a film's changes.
 
-ghost use Rattle.std.specs.Prelude.{◌≡◌, ◌≤◌, ◌++◌, ◌==◌, ◌+◌, ℕ, [], length, option_copied, position, unwrap_or, IfErr, IfOk, IfSome, OnOk};
+ghost use Rattle.std.specs.Prelude.{◌≡◌, ◌<◌, ◌≤◌, ◌++◌, ◌==◌, ◌+◌, ℕ, [], All, length, option_copied, position, unwrap_or, IfErr, IfOk, IfSome, OnOk};
 ghost use Rattle.core_store.specs.Storage.{blank_storage, largest_size};
 ghost use Rattle.machine.specs.{
   Run.{after, attempts, is_running, lines_of, step},
@@ -69,11 +69,12 @@ fn push_step_line<C: Core>(
     requires size { length (C.cells storage.now) ≡ length parts.now.works.storage }
     requires lines { shown.now.lines ≤ length (lines_of parts.now) }
     requires cards { shown.now.cards ≤ length (cards_of parts.now) }
-    ensures { OnOk result (out.new.items ≡ out.old.items ++ change_line
+    ensures text { OnOk result (out.new.items ≡ out.old.items ++ change_line
         (statement_words statement.now
         ++ (instruction_span place.i place.count ++ fields_spans place.fields parts.now)
         ++ item_texts (items_since shown.now.numbers shown.now.lines shown.now.cards
         (C.cells storage.now) parts.now))) }
+    ensures characters { OnOk result (All (λ cell. cell.0 < 64) parts.now.works.storage) }
 {
     out.push(b'C')?;
     push_statement(out, statement)?;
@@ -111,6 +112,7 @@ fn push_step<C: Core>(
         ++ step_line (option_copied names.entry) lines cards machine.old) }
     ensures shown { OnOk result (shown.new ≡ shown_of machine.new) }
     ensures storage { OnOk result (C.cells storage.new ≡ machine.new.works.storage) }
+    ensures characters { OnOk result (All (λ cell. cell.0 < 64) machine.new.works.storage) }
 {
     let parts = machine.parts();
     let statement = statement_next(alloc, names, parts)?;
@@ -136,7 +138,8 @@ fn push_first_line<C: Core>(
     requires blank { C.cells blank.now ≡ blank_storage (length parts.now.works.storage) }
     requires lines { lines ≤ length (lines_of parts.now) }
     requires cards { cards ≤ length (cards_of parts.now) }
-    ensures { OnOk result (out.new.items ≡ out.old.items ++ first_line lines cards parts.now) }
+    ensures text { OnOk result (out.new.items ≡ out.old.items ++ first_line lines cards parts.now) }
+    ensures characters { OnOk result (All (λ cell. cell.0 < 64) parts.now.works.storage) }
 {
     let shown = Shown {
         numbers: [0; NUMBER_COUNT],
@@ -173,8 +176,9 @@ fn lines_before(lines: &[Line], form: u32) -> usize
 #[tactic(auto, unfolding(crate::specs::Frames::lines_before, crate::specs::Frames::cards_before))]
 fn push_first<C: Core>(out: &mut Vec<u8>, parts: &Parts<C>, blank: &C) -> Result<(), AllocError>
     requires { C.cells blank.now ≡ blank_storage (length parts.now.works.storage) }
-    ensures { OnOk result (out.new.items ≡ out.old.items
+    ensures text { OnOk result (out.new.items ≡ out.old.items
         ++ first_line (lines_before parts.now) (cards_before parts.now) parts.now) }
+    ensures characters { OnOk result (All (λ cell. cell.0 < 64) parts.now.works.storage) }
 {
     let printer = &parts.units.printer;
     let lines = lines_before(&printer.lines, printer.carriage.form);
@@ -202,11 +206,14 @@ fn push_steps<C: Core>(
     requires storage { C.cells storage.old ≡ machine.old.works.storage }
     requires first { out.old.items ≡ change_lines (option_copied names) machine.old 0 }
     requires fits { Fits (option_copied names) machine.old 0 }
+    requires characters { All (λ cell. cell.0 < 64) machine.old.works.storage }
     ensures machine { OnOk result (machine.new ≡ after machine.old limit) }
     ensures steps { IfOk result (λ steps. steps ≡ attempts machine.old limit) }
     ensures lines { IfOk result (λ steps. out.new.items
         ≡ change_lines (option_copied names.entry) machine.old steps) }
     ensures short { OnOk result (length out.new.items ≤ most_bytes) }
+    ensures characters { IfOk result (λ steps. (k : ℕ) → k ≤ steps →
+        All (λ cell. cell.0 < 64) (after machine.old k).works.storage) }
     ensures too_long { IfErr result (IsHindered (option_copied names.entry) machine.old
         (attempts machine.old limit)) }
 {
@@ -240,6 +247,8 @@ pub(crate) fn push_changes<C: Core>(
     ensures lines { IfOk result (λ steps. out.new.items
         ≡ change_lines (option_copied names.entry) machine.old steps) }
     ensures short { OnOk result (length out.new.items ≤ most_bytes) }
+    ensures characters { IfOk result (λ steps. (k : ℕ) → k ≤ steps →
+        All (λ cell. cell.0 < 64) (after machine.old k).works.storage) }
     ensures too_long { IfErr result (IsHindered (option_copied names.entry) machine.old
         (attempts machine.old limit)) }
 {

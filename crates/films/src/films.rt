@@ -8,7 +8,8 @@ ghost use Rattle.machine.specs.{
   Run.{State, after, attempts, loaded, most_instructions},
 };
 ghost use Rattle.films.specs.{
-  Films.{IsFilm, IsHinderedAt, end_cause, most_steps, passed_over, rest_of, text_before},
+  Films.{IsFilm, IsHinderedAt, begun, end_cause, most_steps, passed_over, rest_of, text_before},
+  Laws.{Shows},
   declared.films.FilmError.TheVariants.{NoMemory},
 };
 
@@ -114,7 +115,7 @@ fn end_cause<C: Core>(parts: &Parts<C>) -> Option<Cause>
 impl Film {
     /// Returns the film of a deck's run on a machine with stacker selection: the steps that the
     /// options ask for, up to the first halt or check, with the cards of a source where its names
-    /// are given.
+    /// are given. What is read of its text are the frames of the machine after each step.
     ///
     /// Fails if the changes are too long, and if there is no memory.
     pub fn of(
@@ -128,9 +129,13 @@ impl Film {
         requires { 0 < length deck.now }
         ensures film { IfOk result (IsFilm (option_copied names.entry) options
             (loaded deck.now size switches Selecting)) }
+        ensures shown { IfOk result (λ film. Shows film.text.items
+            (begun options (loaded deck.now size switches Selecting)) film.steps) }
         ensures hindered { IfErr result (IsHinderedAt (option_copied names.entry) options
             (loaded deck.now size switches Selecting)) }
     {
+        // That the deck has at most 2,000 cards, for the proof.
+        let _cards = deck.cards();
         let mut machine = load(alloc, deck, size, switches)?;
         let mut storage = PlaneCore::blank(alloc, size)?;
         let passed = options.passed_over();

@@ -1,6 +1,6 @@
 //! What differs between two frames.
 
-ghost use Rattle.std.specs.Prelude.{◌≡◌, ◌<◌, ◌≤◌, ◌++◌, drop, length, OnOk};
+ghost use Rattle.std.specs.Prelude.{◌≡◌, ◌<◌, ◌≤◌, ◌++◌, All, drop, length, OnOk};
 ghost use Rattle.std.specs.List.{flat_map};
 ghost use Rattle.core_store.specs.Storage.{cell_at};
 ghost use Rattle.machine.specs.Run.{lines_of};
@@ -125,7 +125,8 @@ fn push_cell(
 /// The contents of a position.
 fn cell_at<C: Core>(core: &C, position: u16) -> (Code, bool)
     requires { position < length (C.cells core.now) }
-    ensures { result ≡ cell_at (C.cells core.now) position }
+    ensures cell { result ≡ cell_at (C.cells core.now) position }
+    ensures character { result.0 < 64 }
 {
     (core.get(position), core.is_marked(position))
 }
@@ -133,8 +134,9 @@ fn cell_at<C: Core>(core: &C, position: u16) -> (Code, bool)
 /// Adds the words for the positions whose contents are others than before.
 fn push_cells<C: Core>(out: &mut Vec<u8>, old: &C, new: &C) -> Result<(), AllocError>
     requires { length (C.cells old.now) ≡ length (C.cells new.now) }
-    ensures { OnOk result (out.new.items
+    ensures text { OnOk result (out.new.items
         ≡ out.old.items ++ items_text (cell_items (C.cells old.now) (C.cells new.now))) }
+    ensures characters { OnOk result (All (λ cell. cell.0 < 64) (C.cells new.now)) }
 {
     for position in 0..new.size() {
         let before = cell_at(old, position);
@@ -172,8 +174,9 @@ impl Shown {
 /// Adds the words for the positions of a machine whose contents are others than before.
 fn push_storage<C: Core>(out: &mut Vec<u8>, storage: &C, parts: &Parts<C>) -> Result<(), AllocError>
     requires { length (C.cells storage.now) ≡ length parts.now.works.storage }
-    ensures { OnOk result (out.new.items ≡ out.old.items
+    ensures text { OnOk result (out.new.items ≡ out.old.items
         ++ items_text (cell_items (C.cells storage.now) parts.now.works.storage)) }
+    ensures characters { OnOk result (All (λ cell. cell.0 < 64) parts.now.works.storage) }
 {
     push_cells(out, storage, &parts.core)
 }
@@ -205,9 +208,10 @@ pub(crate) fn push_items<C: Core>(
     requires size { length (C.cells storage.now) ≡ length parts.now.works.storage }
     requires lines { shown.now.lines ≤ length (lines_of parts.now) }
     requires cards { shown.now.cards ≤ length (cards_of parts.now) }
-    ensures { OnOk result (out.new.items ≡ out.old.items
+    ensures text { OnOk result (out.new.items ≡ out.old.items
         ++ items_text (items_since shown.now.numbers shown.now.lines shown.now.cards
         (C.cells storage.now) parts.now)) }
+    ensures characters { OnOk result (All (λ cell. cell.0 < 64) parts.now.works.storage) }
 {
     push_numbers(out, &shown.numbers, &numbers_of(parts))?;
     push_lines(out, lines_from(parts, shown.lines))?;

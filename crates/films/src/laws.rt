@@ -13,7 +13,7 @@ ghost use Rattle.films.specs.{
   Changes.{all_played, change, played},
   Films.{film_text},
   Frames.{ComesBehind, Frame, cards_before, frame_of, lines_before, nothing},
-  Laws.{IsReadable},
+  Laws.{IsReadable, Shows},
   Reading.{changes_read},
 };
 
@@ -28,11 +28,9 @@ pub fn changes_are_played()
 /// one after the other on nothing, give the frame of the machine after n steps.
 #[tactic(auto, using(crate::proofs::FilmLaw::film_again))]
 pub fn film_is_read()
-    ensures { (names : Option Named) (made : ℕ) (m : State) (steps n : ℕ) →
-        ((k : ℕ) → k ≤ steps → IsReadable (after m k)) → n ≤ steps →
-        all_played (nothing (length m.works.storage))
-        (take (n + 1) (changes_read (film_text names made m steps)))
-        ≡ frame_of (lines_before m) (cards_before m) (after m n) }
+    ensures { (names : Option Named) (made : ℕ) (m : State) (steps : ℕ) →
+        ((k : ℕ) → k ≤ steps → IsReadable (after m k)) →
+        Shows (film_text names made m steps) m steps }
 {}
 
 /// The law of the film of a run: so it is of a deck with at most 2,000 cards, of a film that begins

@@ -13,7 +13,9 @@
 //! Laws: a change played on a frame gives the next one ([`changes_are_played`]), and the changes
 //! that are read of a film's text (`specs/Reading.antt`), played one after the other, give the
 //! frames of the machine after each step ([`film_is_read`]), so of a run from the load button on
-//! ([`film_of_a_run_is_read`]).
+//! ([`film_of_a_run_is_read`]). Both suppose that each position of storage has one of the 64
+//! characters. Of the films that [`Film::of`] makes this is so, and its contract says of each what
+//! is read of it (`Shows` of `specs/Laws.antt`).
 #![tactic(auto)]
 
 mod bodies;

@@ -7,6 +7,7 @@ pub mod RecordLines
 pub mod RecordLaw
 pub mod Readable
 mod BagLemmas
+mod PageLemmas
 mod RerunLemmas
 mod CopyLemmas
 mod ChosenRows

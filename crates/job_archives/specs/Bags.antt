@@ -30,10 +30,13 @@ octets_in = sum_by (λ file. length file.1)
 abbrev pub oxum_of : List File → List ℕ
 oxum_of payload = decimal (octets_in payload) ++ codes "." ++ decimal (length payload)
 
+-- the name of a job: its customer and its number
+abbrev pub job_name : Entry → List ℕ
+job_name e = e.customer ++ codes " " ++ decimal e.number
+
 -- the lines of `bag-info.txt` that follow from the job: its name, and how much its payload is
 unfoldable pub told_lines : Entry → List File → List ℕ
-told_lines e payload =
-    tag_line (codes "External-Identifier") (e.customer ++ codes " " ++ decimal e.number)
+told_lines e payload = tag_line (codes "External-Identifier") (job_name e)
     ++ tag_line (codes "Payload-Oxum") (oxum_of payload)
 
 -- the line of the program that wrote a bag, with its version

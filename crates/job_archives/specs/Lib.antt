@@ -1,5 +1,6 @@
 pub mod Archives
 pub mod Bags
+pub mod Pages
 pub mod Facts
 pub mod Lists
 pub mod Names

@@ -3,7 +3,7 @@
 ghost use Rattle.std.specs.Prelude.{◌≡◌, ◌<◌, ◌==◌, ◌++◌, codes, decimal, drop, length, position, IfOk, IfSome, OnOk};
 ghost use Rattle.job_archives.specs.{
   Archives.{files_as},
-  Bags.{agent_line, are_tags, bag_files, bag_of, declaration, is_agent_line, is_info, is_line, is_same, manifest_line, manifest_of, octets_in, oxum_of, tag_files, tag_line, told_lines},
+  Bags.{agent_line, are_tags, bag_files, bag_of, declaration, is_agent_line, is_info, is_line, is_same, job_name, manifest_line, manifest_of, octets_in, oxum_of, tag_files, tag_line, told_lines},
 };
 
 use crate::archives::{Archive, BagFile, file, files_of};
@@ -96,9 +96,8 @@ fn push_tag(out: &mut Vec<u8>, label: &str, value: &[u8]) -> Result<(), AllocErr
 }
 
 /// The name of a job: its customer and its number.
-fn name_of(alloc: Global, run: &JobRun) -> Result<Vec<u8>, AllocError>
-    ensures { IfOk result (λ text. text.items
-        ≡ run.now.customer ++ codes " " ++ decimal run.now.number) }
+pub(crate) fn name_of(alloc: Global, run: &JobRun) -> Result<Vec<u8>, AllocError>
+    ensures { IfOk result (λ text. text.items ≡ job_name run.now) }
 {
     let mut out = Vec::new(alloc);
     out.extend_from_slice(run.customer().as_bytes())?;

@@ -6,7 +6,8 @@
 //! record with the digests of these, and beside it the files that BagIt asks for. The contract for
 //! the layer above: each file's bytes are those that a definition gives for the job
 //! (`specs/Archives.antt`, `specs/Records.antt`, `specs/Bags.antt`), and what they hold can be read
-//! back: the cards ([`archives_are_read`]), and the whole job ([`archives_are_whole`]).
+//! back: the cards ([`archives_are_read`]), and the whole job ([`archives_are_whole`]). [`page_of`]
+//! returns the page of such a job, to look at in a browser (`specs/Pages.antt`).
 //!
 //! [`run_archived`] runs a job again from two files of its archive alone, and returns it only if its
 //! archive has these two files (`specs/Reruns.antt`). [`stretch_script`] and [`flag_script`] return
@@ -35,6 +36,7 @@ mod lines;
 mod listing;
 mod names;
 mod owners;
+mod pages;
 mod punched;
 mod record_texts;
 mod records;
@@ -51,6 +53,7 @@ pub use joins::compare_join;
 pub use laws::{archives_are_read, archives_are_whole, joins_keep_customers, parts_keep_customers};
 pub use listing::list_jobs;
 pub use owners::{first_shared, first_unknown};
+pub use pages::page_of;
 pub use record_texts::RecordPart;
 pub use rerun::{Unrun, run_archived};
 pub use restoring::{flag_script, parts_of, stretch_script};

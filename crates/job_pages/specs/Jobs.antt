@@ -1,11 +1,10 @@
 -- a source that was assembled and run
-use Rattle.std.specs.Prelude.{◌≡◌, ◌<◌, ◌≤◌, List, length, map}
+use Rattle.std.specs.Prelude.{◌≡◌, ◌<◌, ◌≤◌, List, length}
 use Rattle.cards.specs.declared.Card.{Card}
 use Rattle.cards.specs.Decks.{largest_deck}
 use Rattle.core_store.specs.declared.sizes.Size.{Size}
 use Rattle.units.specs.declared.switches.Switches.{Switches}
 use Rattle.units.specs.declared.profiles.Profile.TheVariants.{Selecting}
-use Rattle.units.specs.declared.punch.Punched.{Punched}
 use Rattle.machine.specs.Run.{State, after, loaded, most_instructions}
 use Rattle.autocoder_layout.specs.Source.{source_of}
 use Rattle.autocoder.specs.Programs.{IsFaultless}
@@ -19,10 +18,6 @@ use Rattle.job_pages.specs.declared.pages.JobPageError.TheVariants.{Faults, NoMe
 abbrev pub ran : List Card → Size → Switches → State
 ran source size switches =
     after (loaded (runnable_deck source) size switches Selecting) most_instructions
-
--- the cards that a machine has punched, whatever their pockets
-abbrev pub cards_punched : State → List Card
-cards_punched m = map (λ (p : Punched). p.card) m.works.units.punch.cards
 
 -- a source without faults, whose loading cards and data fit in a deck, with what was made of it
 pub record IsJobOf (source : List Card) (size : Size) (switches : Switches) (job : Job) : Type 0

@@ -1,4 +1,5 @@
 pub mod Headings
 pub mod Jobs
+pub mod Shown
 pub mod Facts
 pub mod Pages

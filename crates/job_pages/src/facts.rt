@@ -1,18 +1,15 @@
-//! The table of a page: what was run, how it ended, and the digests.
+//! The table of a page: what was run, how it stands, and the digests.
 
-ghost use Rattle.std.specs.Prelude.{◌≡◌, ◌++◌, codes, length, OnOk};
+ghost use Rattle.std.specs.Prelude.{◌≡◌, ◌++◌, codes, length, option_map, OnOk};
 ghost use Rattle.cards.specs.Files.{punch_file_of, text_of};
-ghost use Rattle.machine.specs.{Reports.{report_of, report_words}, Run.{lines_of}};
-ghost use Rattle.units.specs.Listing.{rendered};
-ghost use Rattle.job_pages.specs.Facts.{counted, deck_fact, end_fact, listing_fact, machine_fact, maker_fact, punched_fact, row_named};
+ghost use Rattle.job_pages.specs.Facts.{counted, deck_fact, further_words, listing_fact, machine_fact, maker_fact, punched_fact, row_named, source_fact, standing_fact, starts_words};
 
-use crate::jobs::{Job, listing_of};
-use crate::pages::Subject;
+use crate::pages::JobShown;
 use cards::{Card, Deck, write_punched_cards, write_text};
-use machine::Report;
 use pictures::push_escaped;
 use std::alloc::{AllocError, Global};
 use texts::{push_decimal, push_digest, push_switches};
+use units::Switches;
 
 /// Adds the beginning of a row, with its name.
 fn push_name(out: &mut Vec<u8>, name: &[u8]) -> Result<(), AllocError>
@@ -62,54 +59,75 @@ pub(crate) fn push_deck(
     push_deck_counted(alloc, out, deck)
 }
 
-/// Adds the row of the machine: its size and its switches.
-pub(crate) fn push_machine(out: &mut Vec<u8>, subject: &Subject<'_>) -> Result<(), AllocError>
+/// Adds the row of what was handed in, if it is a source.
+pub(crate) fn push_source(
+    alloc: Global,
+    out: &mut Vec<u8>,
+    source: Option<&Deck>,
+) -> Result<(), AllocError>
     ensures { OnOk result (out.new.items
-        ≡ out.old.items ++ machine_fact subject.now.size subject.now.switches) }
+        ≡ out.old.items ++ source_fact (option_map (λ it. it.now) source.entry)) }
+{
+    match source {
+        Some(source) => push_deck(alloc, out, b"source and data", source),
+        None => Ok(()),
+    }
+}
+
+/// Adds the switches of the starts behind the first.
+fn push_further(out: &mut Vec<u8>, further: &[Switches]) -> Result<(), AllocError>
+    ensures { OnOk result (out.new.items ≡ out.old.items ++ further_words further.now) }
+{
+    for switches in further {
+        out.extend_from_slice(b", then ")?;
+        push_switches(out, *switches)?;
+    }
+    Ok(())
+}
+
+/// Adds the switches of all starts.
+fn push_starts(out: &mut Vec<u8>, starts: &[Switches]) -> Result<(), AllocError>
+    ensures { OnOk result (out.new.items ≡ out.old.items ++ starts_words starts.now) }
+{
+    let Some((first, further)) = starts.split_first() else {
+        return Ok(());
+    };
+    push_switches(out, *first)?;
+    push_further(out, further)
+}
+
+/// Adds the row of the machine: its size, and the switches of its starts.
+pub(crate) fn push_machine(out: &mut Vec<u8>, shown: &JobShown<'_>) -> Result<(), AllocError>
+    ensures { OnOk result (out.new.items
+        ≡ out.old.items ++ machine_fact shown.now.size shown.now.switches.now) }
 {
     push_name(out, b"machine")?;
-    push_decimal(out, subject.size.positions() as usize)?;
+    push_decimal(out, shown.size.positions() as usize)?;
     out.extend_from_slice(b" positions, switches ")?;
-    push_switches(out, subject.switches)?;
+    push_starts(out, shown.switches)?;
     out.extend_from_slice(b"</td></tr>\n")
 }
 
-/// Adds the report of the machine.
-fn push_report(alloc: Global, out: &mut Vec<u8>, job: &Job) -> Result<(), AllocError>
-    ensures { OnOk result (out.new.items
-        ≡ out.old.items ++ report_words (report_of job.now.machine)) }
+/// Adds the row of how the job stands.
+pub(crate) fn push_standing(out: &mut Vec<u8>, row: &[u8], words: &[u8]) -> Result<(), AllocError>
+    ensures { OnOk result (out.new.items ≡ out.old.items ++ standing_fact row.now words.now) }
 {
-    let words = Report::of(job.machine.parts()).to_string(alloc)?;
-    out.extend_from_slice(words.as_bytes())
-}
-
-/// Adds the row of how the run ended.
-pub(crate) fn push_end(alloc: Global, out: &mut Vec<u8>, job: &Job) -> Result<(), AllocError>
-    ensures { OnOk result (out.new.items ≡ out.old.items ++ end_fact job.now.machine) }
-{
-    push_name(out, b"end")?;
-    push_report(alloc, out, job)?;
+    push_name(out, row)?;
+    out.extend_from_slice(words)?;
     out.extend_from_slice(b"</td></tr>\n")
 }
 
-/// Adds how many lines were printed, and the digest of the listing.
-fn push_lines_counted(alloc: Global, out: &mut Vec<u8>, job: &Job) -> Result<(), AllocError>
-    ensures { OnOk result (out.new.items ≡ out.old.items
-        ++ counted (length (lines_of job.now.machine)) (codes " lines")
-        (rendered (lines_of job.now.machine))) }
-{
-    let listing = listing_of(alloc, &job.machine)?;
-    let lines = job.machine.parts().units.printer.lines.len();
-    push_counted(alloc, out, lines, b" lines", &listing)
-}
-
-/// Adds the row of the listing.
-pub(crate) fn push_listing(alloc: Global, out: &mut Vec<u8>, job: &Job) -> Result<(), AllocError>
-    ensures { OnOk result (out.new.items
-        ≡ out.old.items ++ listing_fact (lines_of job.now.machine)) }
+/// Adds the row of the listing of so many lines.
+pub(crate) fn push_listing(
+    alloc: Global,
+    out: &mut Vec<u8>,
+    count: usize,
+    listing: &[u8],
+) -> Result<(), AllocError>
+    ensures { OnOk result (out.new.items ≡ out.old.items ++ listing_fact count listing.now) }
 {
     push_name(out, b"listing")?;
-    push_lines_counted(alloc, out, job)
+    push_counted(alloc, out, count, b" lines", listing)
 }
 
 /// Adds how many cards there are, and the digest of their punch file.

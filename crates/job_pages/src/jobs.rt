@@ -1,26 +1,24 @@
 //! A source that was assembled and run.
 
-ghost use Rattle.std.specs.Prelude.{◌≡◌, ◌<◌, ◌≤◌, length, map, IfErr, IfOk};
+ghost use Rattle.std.specs.Prelude.{◌≡◌, ◌<◌, ◌≤◌, length, IfErr, IfOk};
 ghost use Rattle.{
   cards.specs.Decks.{largest_deck},
   autocoder_layout.specs.Source.{source_of},
   autocoder.specs.Programs.{IsFaultless, IsProgramOf},
   autocoder_listings.specs.Listing.{listing_with_code_for},
   loader.specs.Decks.{runnable_deck},
-  machine.specs.Run.{lines_of},
-  units.specs.{Listing.{rendered}, declared.punch.Punched.{Punched}},
 };
-ghost use Rattle.job_pages.specs.Jobs.{Hinders, IsJobOf, cards_punched, ran};
+ghost use Rattle.job_pages.specs.Jobs.{Hinders, IsJobOf};
 
 use crate::pages::JobPageError;
 use autocoder::{Faults, Program, assemble};
 use autocoder_listings::listing_with_code;
-use cards::{Card, Deck, DeckFault};
+use cards::{Deck, DeckFault};
 use core_store::{PlaneCore, Size};
 use loader::runnable_deck;
 use machine::{Machine, machine_after};
-use std::alloc::{AllocError, Global};
-use units::{Punched, Switches, render};
+use std::alloc::Global;
+use units::Switches;
 
 /// A source with its code, the deck that runs it, and the machine that has run that deck.
 #[derive(Drop)]
@@ -88,32 +86,4 @@ impl Job {
             Err(Faults::NoMemory) => Err(JobPageError::NoMemory),
         }
     }
-}
-
-/// The cards of a punch, without their pockets.
-fn cards_of(alloc: Global, punched: &[Punched]) -> Result<Vec<Card>, AllocError>
-    ensures { IfOk result (λ cards. cards.items ≡ map (λ (p : Punched). p.card) punched.now) }
-{
-    let mut cards = Vec::with_capacity(alloc, punched.len())?;
-    for one in punched {
-        cards.push(Card(one.card.0))?;
-    }
-    Ok(cards)
-}
-
-/// The listing of the lines that a machine has printed.
-pub(crate) fn listing_of(alloc: Global, machine: &Machine<PlaneCore>) -> Result<Vec<u8>, AllocError>
-    ensures { IfOk result (λ text. text.items ≡ rendered (lines_of machine.now)) }
-{
-    render(alloc, &machine.parts().units.printer.lines)
-}
-
-/// The cards that a machine has punched.
-pub(crate) fn punched_by(
-    alloc: Global,
-    machine: &Machine<PlaneCore>,
-) -> Result<Vec<Card>, AllocError>
-    ensures { IfOk result (λ cards. cards.items ≡ cards_punched machine.now) }
-{
-    cards_of(alloc, &machine.parts().units.punch.cards)
 }

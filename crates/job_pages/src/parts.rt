@@ -2,7 +2,7 @@
 
 ghost use Rattle.std.specs.Prelude.{◌≡◌, ◌++◌, OnOk};
 ghost use Rattle.pictures.specs.Forms.{forms_of, sections};
-ghost use Rattle.job_pages.specs.Pages.{boxed, cards_shown, code_shown, job_head, listing_shown, style};
+ghost use Rattle.job_pages.specs.Pages.{boxed, cards_shown, job_head, listing_shown, style, text_shown};
 
 use crate::styles::JOB_STYLE;
 use card_forms::images_of;
@@ -34,12 +34,14 @@ pub(crate) fn push_head(out: &mut Vec<u8>, name: &[u8]) -> Result<(), AllocError
     push_page_heading(out, name)
 }
 
-/// Adds the source with its code.
-pub(crate) fn push_code(out: &mut Vec<u8>, code: &[u8]) -> Result<(), AllocError>
-    ensures { OnOk result (out.new.items ≡ out.old.items ++ code_shown code.now) }
+/// Adds a part of this name with a text.
+pub(crate) fn push_text(out: &mut Vec<u8>, name: &[u8], text: &[u8]) -> Result<(), AllocError>
+    ensures { OnOk result (out.new.items ≡ out.old.items ++ text_shown name.now text.now) }
 {
-    out.extend_from_slice(b"<h2>Source</h2><pre class=\"code\">\n")?;
-    push_escaped(out, code)?;
+    out.extend_from_slice(b"<h2>")?;
+    out.extend_from_slice(name)?;
+    out.extend_from_slice(b"</h2><pre class=\"code\">\n")?;
+    push_escaped(out, text)?;
     out.extend_from_slice(b"</pre>\n")
 }
 

@@ -39,8 +39,8 @@ operator = record {
       ∷ (
         name.Archive,
         codes "archive",
-        (codes "FILE", Value) ∷ (codes "FOLDER", Value) ∷ [],
-        codes "archive FILE FOLDER",
+        (codes "FILE", Value) ∷ (codes "FOLDER", Value) ∷ (codes "pages", Flag) ∷ [],
+        codes "archive FILE FOLDER [--pages]",
       )
       ∷ (
         name.Verify,

@@ -44,10 +44,11 @@ WantsJoin found (Join first second new) = HasArgument (codes "FIRST") found firs
     × HasArgument (codes "NEW") found new.now
 WantsJoin found other = ⊥
 
--- the task of `archive`
+-- the task of `archive`: with `--pages` the pages too
 abbrev pub WantsArchive : List Row → Task → Type 0
-WantsArchive found (Archive file folder) = HasArgument (codes "FILE") found file.now
+WantsArchive found (Archive file folder pages) = HasArgument (codes "FILE") found file.now
     × HasArgument (codes "FOLDER") found folder.now
+    × (pages ≡ has_flag (codes "pages") found)
 WantsArchive found other = ⊥
 
 -- the task of `verify`

@@ -4,10 +4,11 @@ use crate::faults::{done_or_told, tell_unopened};
 use crate::help::agent;
 use crate::job_folders::{Filed, file_job};
 use crate::job_walks::{OnJob, walk_jobs};
+use crate::page_files::{PAGE, PageFound, page_at, write_page};
 use crate::readme::put_readme;
 use crate::verifying::differ;
 use command_line::Status;
-use job_archives::bag_of;
+use job_archives::{bag_of, page_of};
 use job_checks::{JobReport, JobRun, Walked, job_text, orphans_text};
 use std::io::Write;
 use std::{fs, io};
@@ -25,6 +26,8 @@ struct Counts {
 struct Archiving<'a, W: Write> {
     rt: &'a HostRuntime,
     folder: &'a str,
+    /// Whether each job's folder gets its page too.
+    pages: bool,
     output: &'a mut W,
     counts: Counts,
 }
@@ -40,19 +43,48 @@ fn show_names<W: Write>(names: &[String], output: &mut W) -> io::Result<()> {
     output.write_all(b"\n")
 }
 
+/// What is said of a folder that was written.
+fn written_words(with_page: bool) -> &'static str {
+    if with_page {
+        "6 files and a page"
+    } else {
+        "6 files"
+    }
+}
+
+/// What is said of a folder that was there.
+fn same_words(with_page: bool) -> &'static str {
+    if with_page {
+        "is there and the same, its page written"
+    } else {
+        "is there and the same"
+    }
+}
+
+/// Whether a folder of which this came has a place for a page, or nothing wrong but what is there.
+fn has_place(filed: &Filed) -> bool {
+    match filed {
+        Filed::Written | Filed::Same => true,
+        Filed::Differs(names) => names.len() == 1 && names[0].as_str() == PAGE,
+        Filed::Older | Filed::Hindered(_) => false,
+    }
+}
+
 impl<W: Write> Archiving<'_, W> {
-    /// Counts and prints what came of a job's archive.
-    fn tell(&mut self, run: &JobRun, filed: &Filed) -> io::Result<()> {
+    /// Counts and prints what came of a job's archive, and whether its page was written.
+    fn tell(&mut self, run: &JobRun, filed: &Filed, with_page: bool) -> io::Result<()> {
         let customer = run.customer();
         let number = run.number();
         match filed {
             Filed::Written => {
                 self.counts.written = self.counts.written.saturating_add(1);
-                writeln!(self.output, "{customer} {number}: 6 files")
+                let words = written_words(with_page);
+                writeln!(self.output, "{customer} {number}: {words}")
             }
             Filed::Same => {
                 self.counts.same = self.counts.same.saturating_add(1);
-                writeln!(self.output, "{customer} {number} is there and the same")
+                let words = same_words(with_page);
+                writeln!(self.output, "{customer} {number} {words}")
             }
             Filed::Differs(names) => {
                 self.counts.differing = self.counts.differing.saturating_add(1);
@@ -77,11 +109,37 @@ impl<W: Write> Archiving<'_, W> {
         }
     }
 
+    /// Puts the page of a job in its folder, of which this came. Returns what came of both, and
+    /// whether the page was written.
+    fn put_page(&self, run: &JobRun, filed: Filed) -> io::Result<(Filed, bool)> {
+        if !has_place(&filed) {
+            return Ok((filed, false));
+        }
+        let customer = run.customer();
+        let number = run.number();
+        let folder = self.folder;
+        let path = format!(in self.rt.alloc(); "{folder}/{customer}/{number}")?;
+        match page_at(self.rt, &path)? {
+            PageFound::Missing(place) => {
+                let page = page_of(self.rt.alloc(), agent(), run)?;
+                write_page(self.rt, &place, &page)?;
+                Ok((filed, true))
+            }
+            PageFound::Kept => Ok((filed, false)),
+            PageFound::Hindered(path) => Ok((Filed::Hindered(path), false)),
+        }
+    }
+
     /// Files a job that is as it ran.
     fn file(&mut self, run: &JobRun) -> io::Result<()> {
         let bag = bag_of(self.rt.alloc(), agent(), run)?;
         let filed = file_job(self.rt, self.folder, run.customer(), run.number(), &bag)?;
-        self.tell(run, &filed)
+        let (filed, with_page) = if self.pages {
+            self.put_page(run, filed)?
+        } else {
+            (filed, false)
+        };
+        self.tell(run, &filed, with_page)
     }
 
     /// Prints what differs of a job.
@@ -146,17 +204,19 @@ fn tell_end<W: Write>(
 }
 
 /// Runs each job of the bureau's file at a path again, and files those that are as they ran in a
-/// folder.
+/// folder, each with its page if pages are asked for.
 pub(crate) fn archive_file<W: Write, E: Write>(
     rt: &HostRuntime,
     file: &str,
     folder: &str,
+    pages: bool,
     output: &mut W,
     errors: &mut E,
 ) -> io::Result<Status> {
     let mut archiving = Archiving {
         rt,
         folder,
+        pages,
         output,
         counts: Counts {
             written: 0,

@@ -18,7 +18,8 @@ usage: operator SUBCOMMAND ARGUMENTS.. [OPTIONS]
   part FILE NEW [--others] CUSTOMER..
                           writes a new bureau's file with these customers' jobs
   join FIRST SECOND NEW   writes a new bureau's file with the jobs of two
-  archive FILE FOLDER     writes each job's decks, cards and lines into a folder
+  archive FILE FOLDER [--pages]
+                          writes each job's decks, cards and lines into a folder
   verify FOLDER           runs each job of such a folder again, and compares
   restore FOLDER NEW      writes a new bureau's file with the jobs of such a
                           folder, handed in again
@@ -132,14 +133,16 @@ already.
 
 /// The text that `archive --help` prints.
 pub const ARCHIVE_HELP: &str = "\
-operator archive FILE FOLDER: writes each job's decks, cards and lines into a
-folder.
+operator archive FILE FOLDER [--pages]: writes each job's decks, cards and lines
+into a folder.
 
-FILE    the bureau's file, which no other program has open
-FOLDER  the folder that the jobs' folders stand in
+FILE     the bureau's file, which no other program has open
+FOLDER   the folder that the jobs' folders stand in
+--pages  each job's folder gets its page too, to look at in a browser
 
 example:
   operator archive my.bureau archive
+  operator archive my.bureau archive --pages
 
 Each job is run again as check does. For each one that is as it ran a folder
 FOLDER/CUSTOMER/NUMBER is written, a bag of BagIt 1.0 (RFC 8493). In its data/
@@ -152,6 +155,12 @@ two manifests. A folder that is there already is compared and not written; which
 version of the program wrote it does not count. FOLDER/README.txt says how to
 read it all; one that is there stays. The bureau's file is not changed. Status
 1: something differs, or could not be written.
+
+A page, FOLDER/CUSTOMER/NUMBER/page.html, stands beside the files of the bag,
+whose manifests do not name it. It shows what was run and how the job stands,
+the digests, the source with its code or else the deck, the listing on its
+forms, and the punched cards. It is written where there is none, also for a
+folder that is there and the same. One that is there stays as it is.
 ";
 
 /// The text that `verify --help` prints.
@@ -166,9 +175,10 @@ example:
 
 The digests of each bag are checked. Then its job is run again from deck.text
 and record, and each file is compared with what the job makes; which version of
-the program wrote it does not count. A line is printed for each job, with all
-that is wrong, and at the end a sum. No bureau's file is needed, and nothing is
-changed. Status 1: something is wrong, or FOLDER has what is no job's folder.
+the program wrote it does not count. What a page shows is not looked at. A line
+is printed for each job, with all that is wrong, and at the end a sum. No
+bureau's file is needed, and nothing is changed. Status 1: something is wrong,
+or FOLDER has what is no job's folder.
 ";
 
 /// The text that `restore --help` prints.

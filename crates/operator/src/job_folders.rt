@@ -4,6 +4,7 @@ ghost use Rattle.std.specs.Prelude.{◌≡◌, true};
 ghost use Rattle.texts.specs.Names.{is_customer};
 
 use crate::bag_files::PAYLOAD;
+use crate::page_files::{PAGE, is_hindered};
 use job_archives::{Bag, BagFile};
 use std::alloc::AllocError;
 use std::fs::{File, OpenOptions};
@@ -160,14 +161,15 @@ fn has_same(rt: &HostRuntime, folder: &str, bag: &Bag, file: BagFile<'_>) -> io:
     }
 }
 
-/// Whether a bag has this name in its folder, or, behind what these paths begin with, in `data`.
+/// Whether a bag has this name in its folder, where its page stands too, or, behind what these paths
+/// begin with, in `data`.
 fn has_name(bag: &Bag, begun: &str, name: &str) -> bool {
     for file in bag.files() {
         if matches!(file.path.strip_prefix(begun), Some(rest) if rest == name) {
             return true;
         }
     }
-    begun.is_empty() && name == DATA
+    begun.is_empty() && (name == DATA || name == PAGE)
 }
 
 /// Adds a name.
@@ -201,7 +203,7 @@ fn push_others(
     Ok(())
 }
 
-/// Compares the folder of a job with its bag.
+/// Compares the folder of a job with its bag. A page beside the files of the bag may be any file.
 pub(crate) fn compare_folder(rt: &HostRuntime, path: &str, bag: &Bag) -> io::Result<Filed> {
     let mut names = Vec::new(rt.alloc());
     let data = format!(in rt.alloc(); "{path}/data")?;
@@ -215,6 +217,9 @@ pub(crate) fn compare_folder(rt: &HostRuntime, path: &str, bag: &Bag) -> io::Res
             push_name(rt, &mut names, file.path)?;
         }
     }
+    if is_hindered(rt, path)? {
+        push_name(rt, &mut names, PAGE)?;
+    }
     push_others(rt, &mut names, path, "", bag)?;
     if has_data {
         push_others(rt, &mut names, &data, IN_DATA, bag)?;
@@ -227,7 +232,7 @@ pub(crate) fn compare_folder(rt: &HostRuntime, path: &str, bag: &Bag) -> io::Res
 }
 
 /// Whether there is nothing at a path.
-fn has_nothing(rt: &HostRuntime, path: &str) -> io::Result<bool> {
+pub(crate) fn has_nothing(rt: &HostRuntime, path: &str) -> io::Result<bool> {
     match place_at(rt, path)? {
         Place::Nothing => Ok(true),
         Place::Folder | Place::Other => Ok(false),

@@ -21,6 +21,7 @@ mod job_folders;
 mod job_walks;
 mod joining;
 mod listing;
+mod page_files;
 mod parting;
 mod readme;
 mod restoring;
@@ -95,7 +96,11 @@ fn carry_out<W: Write, E: Write>(
             };
             join_files(rt, made, output, errors)
         }
-        Task::Archive { file, folder } => archive_file(rt, file, folder, output, errors),
+        Task::Archive {
+            file,
+            folder,
+            pages,
+        } => archive_file(rt, file, folder, pages, output, errors),
         Task::Verify { folder } => verify_shelf(rt, folder, output, errors),
         Task::Restore { folder, new } => restore_shelf(rt, folder, new, output, errors),
         Task::Work { port, rounds } => run_queue(rt, port, rounds, output, errors),

@@ -32,6 +32,10 @@ A job's folder is a bag of BagIt 1.0 (RFC 8493):
   data/cards.punch        the cards that the machine punched, by their holes
   data/cards.text         the same cards by their characters
   data/record             what else was known of the job (4 below)
+  page.html               where it was asked for: a page that shows the job in a
+                          browser, with what it printed and the cards that it
+                          punched. It is made of the files in data, and no
+                          manifest names it
 
 deck.text, loaded.text and cards.text have a line of 80 characters for each
 card. cards.punch has a line of 240 hexadecimal digits for each card: three for

@@ -73,8 +73,12 @@ const SUBCOMMANDS: [Syntax<Subcommand>; 11] = [
     Syntax {
         subcommand: Subcommand::Archive,
         name: "archive",
-        arguments: &[("FILE", Kind::Value), ("FOLDER", Kind::Value)],
-        usage: "archive FILE FOLDER",
+        arguments: &[
+            ("FILE", Kind::Value),
+            ("FOLDER", Kind::Value),
+            ("pages", Kind::Flag),
+        ],
+        usage: "archive FILE FOLDER [--pages]",
     },
     Syntax {
         subcommand: Subcommand::Verify,

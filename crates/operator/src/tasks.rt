@@ -103,6 +103,8 @@ pub enum Task<'a> {
         file: &'a str,
         /// The path of the folder that holds the jobs' folders.
         folder: &'a str,
+        /// Whether each job's folder gets its page too.
+        pages: bool,
     },
     /// Run each job of a shelf again, and compare it with its bag.
     Verify {
@@ -190,7 +192,12 @@ fn archive_task<'a>(found: &Found<'a>) -> Result<Task<'a>, Mistake<'a>>
 {
     let file = found.needed("FILE")?;
     let folder = found.needed("FOLDER")?;
-    Ok(Task::Archive { file, folder })
+    let pages = found.has_flag("pages");
+    Ok(Task::Archive {
+        file,
+        folder,
+        pages,
+    })
 }
 
 /// The task of a subcommand `verify`.

@@ -3,14 +3,13 @@
 ghost use Rattle.std.specs.Prelude.{◌≡◌, ◌++◌, option_copied, MatchOption, IfOk, OnOk};
 ghost use Rattle.autocoder_layout.specs.Source.{source_of};
 ghost use Rattle.autocoder.specs.Programs.{IsFaultless};
-ghost use Rattle.source_reports.specs.Names.{name_text};
 ghost use Rattle.run_traces.specs.Names.{distance_words, name_field, name_words, named_by, nearer, nearest};
 
 use crate::shown::push_padding;
-use autocoder::{Faults, Program, assemble, push_glyphs};
+use autocoder::{Faults, Program, assemble};
 use autocoder_layout::{Definition, Slot, source_of};
-use autocoder_statements::{Class, Name};
 use cards::{Card, Deck};
+use source_reports::push_name;
 use std::alloc::{AllocError, Global};
 use std::marker::Model;
 
@@ -96,14 +95,6 @@ fn nearest(slots: &[Slot], address: u16) -> Option<Definition>
         best = nearer(address, best, slot.defines);
     }
     best
-}
-
-/// Adds a name: its letters and digits.
-fn push_name(line: &mut Vec<u8>, name: &Name) -> Result<(), AllocError>
-    ensures { OnOk result (line.new.items ≡ line.old.items ++ name_text name.now) }
-{
-    let characters = &name.characters[..];
-    push_glyphs(line, &characters[..Class::Filled.run(characters)])
 }
 
 /// Adds how far behind a name an address is.

@@ -49,5 +49,7 @@ pub use laws::{
     near_operations_are_the_only_ones, operands_told_are_those_of_the_table,
     reports_follow_the_assembler, wrong_operands_are_told,
 };
+pub use names::push_name;
+pub use operation_names::push_operation_name;
 pub use reports::Report;
 pub use words::words_of;

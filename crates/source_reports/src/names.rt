@@ -19,8 +19,8 @@ pub(crate) struct Known {
     pub(crate) card: usize,
 }
 
-/// Adds a name as it is shown: its letters and digits.
-pub(crate) fn push_name(text: &mut Vec<u8>, name: &Name) -> Result<(), AllocError>
+/// Adds a name as it is shown: its letters and digits. Fails only if there is no memory.
+pub fn push_name(text: &mut Vec<u8>, name: &Name) -> Result<(), AllocError>
     ensures { OnOk result (text.new.items ≡ text.old.items ++ name_text name.now) }
 {
     let characters = &name.characters[..];

@@ -9,7 +9,7 @@ ghost use Rattle.source_reports.specs.{
 
 use crate::field_hints::{looks_like_comment, push_comment};
 use crate::left_out::advice;
-use crate::operation_names::{LONGEST, near_operation, push_shown};
+use crate::operation_names::{LONGEST, near_operation, push_operation_name};
 use crate::pieces::push_text;
 use crate::source_columns::are_columns_off;
 use autocoder_statements::{Class, operation_field};
@@ -22,7 +22,7 @@ fn push_question(text: &mut Vec<u8>, name: &[u8; LONGEST]) -> Result<(), AllocEr
     ensures { OnOk result (text.new.items ≡ text.old.items ++ question_text name.now) }
 {
     push_text(text, "; did you mean ")?;
-    push_shown(text, name)?;
+    push_operation_name(text, name)?;
     push_text(text, "?")?;
     Ok(())
 }

@@ -151,9 +151,9 @@ fn shown_length(name: &[u8; LONGEST]) -> usize
     }
 }
 
-/// Adds a name without the blanks behind it.
+/// Adds the name of an operation without the blanks behind it. Fails only if there is no memory.
 #[tactic(auto, unfolding(crate::specs::OperationNames::shown_name))]
-pub(crate) fn push_shown(text: &mut Vec<u8>, name: &[u8; LONGEST]) -> Result<(), AllocError>
+pub fn push_operation_name(text: &mut Vec<u8>, name: &[u8; LONGEST]) -> Result<(), AllocError>
     ensures { OnOk result (text.new.items ≡ text.old.items ++ shown_name name.now) }
 {
     text.extend_from_slice(&name[..shown_length(name)])?;

@@ -298,10 +298,11 @@ example:
   workbench trace mine.deck 4000 A --names mine.source --stop 'READ&8'
 
 A line has the number of the instruction, its address, its characters, the
-registers A and B and what the units did. The last 20 instructions before a
-check are always printed. The end is the line of bureau run; no option changes
-what the run does. workbench profile shows where a run is that does not end.
-Status 0: the machine stands at a halt.
+statement that the assembler makes them of, the registers A and B and what the
+units did. The last 20 instructions before a check are always printed. The end
+is the line of bureau run; no option changes what the run does. workbench
+profile shows where a run is that does not end. Status 0: the machine stands at
+a halt.
 ";
 
 /// The text that `dump --help` prints.

@@ -1,4 +1,5 @@
-use Rattle.std.proofs.Common.{◌++◌, ◌∙◌, ap}
+use Rattle.std.proofs.Common.{◌++◌, ◌∙◌, ◌<◌, All, ap, subst}
+use Rattle.machine.specs.Run.{State}
 use Rattle.std.specs.Prelude.{option_copied}
 use Rattle.run_traces.specs.Statements.{statement_next}
 use Rattle.films.specs.declared.items.Shown.{Shown}
@@ -24,8 +25,12 @@ keep-requires g c =
 
 pub returns-clause-line : goal.returns-clause-line
 returns-clause-line g c = λ lines cards in_lines in_cards.
-    c.in_ok-push_step_line.ensures
+    c.in_ok-push_step_line.ensures.text
     ∙ ap (λ text. c.args.out.now.items ++ text)
     (step_text (option_copied c.args.names) c.place_of-place.result c.args.shown.now c.deref.result.now (g.C.Core.cells c.args.storage.now) c.args.machine.now c.parts-parts-2.result.now lines cards
     (c.deref.ensures.value ∙ c.in_ok-statement.ensures ∙ ap (statement_next (option_copied c.args.names)) c.parts-parts.ensures.picture)
     (c.place_of-place.ensures.place ∙ ap place_of c.parts-parts.ensures.picture) c.requires.shown c.requires.storage (c.parts-parts-2.ensures.picture ∙ c.in_ok-step.ensures.machine) in_lines in_cards)
+
+pub returns-clause-characters : goal.returns-clause-characters
+returns-clause-characters g c =
+    subst (λ (x : State). All (λ cell. cell.0 < 64) x.works.storage) c.parts-parts-2.ensures.picture c.in_ok-push_step_line.ensures.characters

@@ -1,4 +1,4 @@
-use Rattle.std.proofs.Common.{◌≡◌, ◌≤◌, length}
+use Rattle.std.proofs.Common.{◌≡◌, ◌<◌, ◌≤◌, ℕ, All, length}
 use Rattle.std.specs.Prelude.{option_copied}
 use Rattle.machine.specs.Run.{after, attempts}
 use Rattle.films.specs.Frames.{shown_of}
@@ -13,4 +13,5 @@ invariant-loop-made g l = record {
   fits : length l.out.items ≤ most_bytes;
   shown : l.shown ≡ shown_of l.machine;
   storage : g.C.Core.cells l.storage ≡ l.machine.works.storage;
+  characters : (k : ℕ) → k ≤ l.made → All (λ cell. cell.0 < 64) (after l.fn.machine k).works.storage;
 }

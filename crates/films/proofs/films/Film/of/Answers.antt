@@ -1,4 +1,4 @@
-use Rattle.std.proofs.Common.{◌≡◌, ◌++◌, ◌∙◌, ap, arith, refl}
+use Rattle.std.proofs.Common.{◌≡◌, ◌++◌, ◌∙◌, ap, arith, length, refl}
 use Rattle.machine.specs.Reports.{report_of}
 use Rattle.std.specs.Prelude.{option_copied}
 use Rattle.machine.proofs.Attempts.{attempts_fit}
@@ -7,6 +7,7 @@ use Rattle.machine.specs.Standings.{standing_of}
 use Rattle.units.specs.declared.profiles.Profile.TheVariants.{Selecting}
 use Rattle.films.specs.Films.{end_cause, passed_over, text_before}
 use Rattle.films.proofs.FilmLemmas.{is_film, size_loaded}
+use Rattle.films.proofs.RunLaw.{run_shown}
 use Rattle.films.proofs.films.Film.of.Goals as goal
 
 pub push_changes-requires-clause-blank : goal.push_changes-requires-clause-blank
@@ -64,3 +65,9 @@ returns-clause-film c =
     is_film names c.args.options m x y c.advance-2.new.machine _ c.push_changes.new.out.items c.in_ok-more.more is_x is_y is_z is_made is_steps is_more c.in_ok-steps.ensures.lines c.in_ok-steps.ensures.short is_text
     (c.standing_at-standing.ensures ∙ ap standing_of c.parts-parts.ensures.picture) (c.end_cause-cause.ensures ∙ ap end_cause c.parts-parts.ensures.picture) refl
     (c.of.ensures ∙ ap report_of c.parts-2.ensures.picture)
+
+pub returns-clause-shown : goal.returns-clause-shown
+returns-clause-shown c =
+    let m = loaded c.args.deck.now c.args.size c.args.switches Selecting in
+    let is_x = c.in_ok-made.ensures.machine ∙ ap (λ (s : State). after s c.passed_over-passed.result) c.in_ok-machine.ensures ∙ ap (after m) c.passed_over-passed.ensures in
+    run_shown (option_copied c.args.names) c.args.deck.now c.args.size c.args.switches c.args.options c.advance.new.machine _ c.requires (omega (arith, c.cards-cards.ensures.limit, ap length c.cards-cards.ensures.cards)) is_x c.in_ok-steps.ensures.characters (returns-clause-film c)

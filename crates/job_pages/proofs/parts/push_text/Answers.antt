@@ -1,0 +1,7 @@
+use Rattle.pictures.proofs.CountedPieces.{last_piece, more}
+use Rattle.job_pages.proofs.parts.push_text.Goals as goal
+
+pub returns : goal.returns
+returns c =
+    let o = c.args.out.now.items in
+    last_piece c.extend_from_slice-4.result o _ _ _ _ (more o _ _ _ _ (more o _ _ _ _ (more o _ _ _ _ c.in_ok-extend_from_slice.ensures.items c.in_ok-extend_from_slice-2.ensures.items) c.in_ok-extend_from_slice-3.ensures.items) c.in_ok-push_escaped.ensures) c.extend_from_slice-4.ensures.items
