@@ -1,13 +1,8 @@
 -- for `parts`: addresses
-use Rattle.std.proofs.Common.{◌≡◌, ◌≤◌, ℕ, Bool, true, false, List, [], ◌∷◌, length, get_or, Some, None, if◌then◌else◌, refl, sym, arith}
+use Rattle.std.proofs.Common.{◌≡◌, ◌≤◌, ℕ, true, List, [], ◌∷◌, length, get_or, Some, refl, sym, arith}
 use Rattle.std.specs.Str.{bytes_eq}
 use Rattle.bcd.specs.Table.{zone_of}
 use Rattle.addresses.specs.Addresses.{Tagged, tagged, written}
-use Rattle.std.specs.Option.{option_map, is_some}
-use Rattle.autocoder_statements.specs.Characters.{is_ended}
-use Rattle.autocoder_statements.specs.Operands.{is_modifier, modifier, operands, with_modifier}
-use Rattle.autocoder_statements.specs.declared.modifiers.Modifiers.{Modifiers}
-use Rattle.autocoder_statements.specs.declared.operand_forms.OperandForm.TheVariants.{Modifier}
 use Rattle.disassembly.specs.Statements.{address}
 
 -- for `address`: three characters that are written so

@@ -1,5 +1,5 @@
 -- a source that is the code in a storage
-use Rattle.std.specs.Prelude.{ℕ, ◌≡◌, ◌<◌, ◌≤◌, List, length}
+use Rattle.std.specs.Prelude.{ℕ, ◌≡◌, ◌<◌, ◌≤◌, ◌++◌, List, length}
 use Rattle.cards.specs.declared.decks.Card.{Card}
 use Rattle.core_store.specs.Storage.{Storage, blank_storage, cell_at}
 use Rattle.autocoder_layout.specs.Judging.{first_free}
@@ -23,3 +23,7 @@ pub record IsImageOf (s : Storage) (positions : ℕ) (image : List Cell) : Type 
 pub record IsCodeOf (s : Storage) (source : List Card) : Type 0 where
   pub faultless : IsFaultless source
   pub image : IsImageOf s (size_for source) (image_for source)
+
+-- a deck ends with these data cards
+abbrev pub EndsWith : List Card → List Card → Type 0
+EndsWith cards deck = (made : List Card) × (deck ≡ made ++ cards)

@@ -1,6 +1,6 @@
 //! The image of a program beside a storage.
 
-ghost use Rattle.std.specs.Prelude.{◌≡◌, ◌<◌, ◌≤◌, All, length, slice_set, IfOk, IsTrue};
+ghost use Rattle.std.specs.Prelude.{◌≡◌, ◌<◌, ◌≤◌, ◌↔◌, All, length, slice_set, IfOk, IsTrue};
 ghost use Rattle.core_store.specs.Storage.{blank_storage, cell_at, largest_size, positions_of, with_mark};
 ghost use Rattle.loader.specs.Loading.{filled_with};
 ghost use Rattle.disassembly.specs.Sources.{HaveSameCode, IsImageOf};
@@ -42,8 +42,8 @@ fn filled<C: Core>(alloc: Global, size: Size, image: &[Cell]) -> Result<C, Alloc
 fn is_same_at<C: Core, D: Core>(core: &C, other: &D, position: u16) -> bool
     requires inside { position < length (C.cells core.now) }
     requires within { position < length (D.cells other.now) }
-    ensures { IsTrue result →
-        cell_at (D.cells other.now) position ≡ cell_at (C.cells core.now) position }
+    ensures { IsTrue result ↔
+        (cell_at (D.cells other.now) position ≡ cell_at (C.cells core.now) position) }
 {
     core.get(position) == other.get(position)
         && core.is_marked(position) == other.is_marked(position)
@@ -53,7 +53,7 @@ fn is_same_at<C: Core, D: Core>(core: &C, other: &D, position: u16) -> bool
 /// may fill.
 fn have_same_code<C: Core, D: Core>(core: &C, other: &D) -> bool
     requires { length (D.cells other.now) ≡ length (C.cells core.now) }
-    ensures { IsTrue result → HaveSameCode (C.cells core.now) (D.cells other.now) }
+    ensures { IsTrue result ↔ HaveSameCode (C.cells core.now) (D.cells other.now) }
 {
     for position in FIRST_FREE..core.size() {
         if !is_same_at(core, other, position) {
@@ -69,7 +69,7 @@ pub(crate) fn is_code<C: Core>(
     core: &C,
     program: &Program,
 ) -> Result<bool, AllocError>
-    ensures { IfOk result (λ is_same. IsTrue is_same → IsImageOf (C.cells core.now)
+    ensures { IfOk result (λ is_same. IsTrue is_same ↔ IsImageOf (C.cells core.now)
         (positions_of program.now.size) program.now.image) }
 {
     if program.size().positions() != core.size() {

@@ -1,8 +1,8 @@
 //! A source made of a storage.
 
-ghost use Rattle.std.specs.Prelude.{◌≡◌, true, IfOk, IsTrue};
+ghost use Rattle.std.specs.Prelude.{◌↔◌, IfOk, IsTrue};
 ghost use Rattle.autocoder_layout.specs.Source.{source_of};
-ghost use Rattle.disassembly.specs.Sources.{IsCodeOf};
+ghost use Rattle.disassembly.specs.Sources.{EndsWith, IsCodeOf};
 
 use crate::comparing::is_code;
 use crate::flows::reached;
@@ -53,7 +53,7 @@ fn left_out(alloc: Global, pieces: &[Piece]) -> Result<Vec<u16>, AllocError> {
 
 /// Whether the source that a deck begins with is the storage's.
 fn is_code_of<C: Core>(alloc: Global, core: &C, deck: &Deck) -> Result<bool, AllocError>
-    ensures { IfOk result (λ is_whole. IsTrue is_whole →
+    ensures { IfOk result (λ is_whole. IsTrue is_whole ↔
         IsCodeOf (C.cells core.now) (source_of deck.now)) }
 {
     match assemble(alloc, deck) {
@@ -68,9 +68,11 @@ fn written<C: Core>(
     alloc: Global,
     core: &C,
     pieces: &[Piece],
-    data: &[Card],
+    data_cards: &[Card],
     options: CodeOptions<'_>,
-) -> Result<Deck, DeckFault> {
+) -> Result<Deck, DeckFault>
+    ensures { IfOk result (EndsWith data_cards.now) }
+{
     let mut labels = Labels::of(alloc, core, pieces, options.names, options.numbers)?;
     if labels.is_begun(options.start) {
         labels.use_position(options.start);
@@ -81,7 +83,7 @@ fn written<C: Core>(
         labels: &labels,
     };
     let mut deck = writer.source(pieces, options)?;
-    deck.push_all(data)?;
+    deck.push_all(data_cards)?;
     Ok(deck)
 }
 
@@ -95,15 +97,16 @@ fn written<C: Core>(
 pub fn code_of<C: Core>(
     alloc: Global,
     core: &C,
-    data: &[Card],
+    data_cards: &[Card],
     options: CodeOptions<'_>,
 ) -> Result<Code, DeckFault>
-    ensures { IfOk result (λ code. code.is_whole ≡ true →
+    ensures whole { IfOk result (λ code. IsTrue code.is_whole ↔
         IsCodeOf (C.cells core.now) (source_of code.deck)) }
+    ensures ends { IfOk result (λ code. EndsWith data_cards.now code.deck) }
 {
     let found = reached(alloc, core, options.start, options.begun)?;
     let pieces = pieces_of(alloc, core, &found)?;
-    let deck = written(alloc, core, &pieces, data, options)?;
+    let deck = written(alloc, core, &pieces, data_cards, options)?;
     let is_whole = is_code_of(alloc, core, &deck)?;
     let left_out = left_out(alloc, &pieces)?;
     Ok(Code {
