@@ -1,5 +1,5 @@
 -- Files as they are held, and by their paths and bytes.
-use Rattle.std.proofs.Common.{◌≡◌, ◌∙◌, ℕ, ◌+◌, ◌<◌, drop, List, [], ◌∷◌, ◌++◌, flat_map, length, map, refl, ap, arith, slice_index_or, sym}
+use Rattle.std.proofs.Common.{◌≡◌, ◌∙◌, ℕ, ◌+◌, ◌<◌, drop, List, [], ◌∷◌, ◌++◌, flat_map, length, refl, ap, arith, slice_index_or, sym}
 use Rattle.std.specs.List.{sum_by}
 use Rattle.std.proofs.Math.ListN.{drop_of_length-le}
 use Rattle.std.proofs.lemmas.List.{length-map}

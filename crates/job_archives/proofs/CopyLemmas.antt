@@ -1,5 +1,5 @@
 -- Databases with the same rows of each job stand for the same offices, and so do their parts.
-use Rattle.std.proofs.Common.{◌≡◌, ◌↔◌, ◌++◌, ℕ, pos, List, [], ◌∷◌, length, map, filter, Bool, true, false, Option, Some, None, Result, Ok, OnOk, IsTrue, refl, sym, ap, subst, ◌∙◌}
+use Rattle.std.proofs.Common.{◌≡◌, ◌↔◌, ◌++◌, ℕ, pos, List, [], ◌∷◌, length, map, filter, Option, Some, None, Result, Ok, OnOk, IsTrue, refl, sym, ap, subst, ◌∙◌}
 use Rattle.std.specs.Prelude.{⊤}
 use Rattle.std.specs.List.{AllByRecursion}
 use Rattle.std.specs.List.Sorted.{IsPermutation}
@@ -15,12 +15,12 @@ use Rattle.ledger_tables.specs.declared.faults.Fault.{Fault}
 use Rattle.job_archives.specs.declared.comparing.Compared.{Compared}
 use Rattle.job_archives.specs.declared.customers.Customers.{Customers}
 use Rattle.job_archives.specs.declared.customers.Customers.TheVariants.{All, Named, Others}
-use Rattle.sqlite.specs.Order.{Row, column}
+use Rattle.sqlite.specs.Order.{Row}
 use Rattle.sqlite.specs.Tree.{Trees}
 use Rattle.sqlite.specs.declared.types.Value.TheVariants.{Int, Text}
-use Rattle.ledger.specs.Standing.{named, Rows}
-use Rattle.ledger_tables.specs.Tables.{cells, job_row}
-use Rattle.job_checks.specs.Kept.{AreKept, AreNamedApart, IsKept}
+use Rattle.ledger.specs.Standing.{Rows}
+use Rattle.ledger_tables.specs.Tables.{cells}
+use Rattle.job_checks.specs.Kept.{AreNamedApart, IsKept}
 use Rattle.job_checks.specs.Tables.{version_columns, AreRowsOf, AreRowsOfJob, HandsBack, HasRows, IsBureaus, TableRows, WholeTables}
 use Rattle.job_checks.specs.declared.reports.Table.{Table}
 use Rattle.job_checks.specs.declared.reports.Table.TheVariants as table
@@ -31,7 +31,7 @@ use Rattle.job_checks.proofs.OneJob.{kept_again, kept_in_all, kept_in_one}
 use Rattle.job_checks.proofs.OwnerLaw.{all_are_owned}
 use Rattle.job_checks.proofs.StandingRows.{rows_stand}
 use Rattle.job_checks.proofs.WholeRows.{whole, whole_has}
-use Rattle.job_archives.specs.Copies.{Compares, ComparesFiles, DiffersIn, HasPart, HasTheirJobs, HaveSameJob, IsSameJob, JobDiffers, ReadsBothSettled, StandsForPart, Tells, VersionsDiffer, rows_in}
+use Rattle.job_archives.specs.Copies.{Compares, ComparesFiles, DiffersIn, HasPart, HasTheirJobs, HaveSameJob, IsSameJob, JobDiffers, ReadsBothSettled, StandsForPart, Tells, rows_in}
 use Rattle.job_archives.specs.Parts.{is_among, is_theirs, part_of}
 
 -- ---- the rows of some customers

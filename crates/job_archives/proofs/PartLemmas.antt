@@ -1,8 +1,7 @@
 -- What parts and joins of offices hold of each customer, and who has jobs in them.
 use Rattle.std.proofs.Common.{◌≡◌, ◌≢◌, ◌⊎◌, inl, inr, ◌++◌, ◌||◌, ℕ, List, [], ◌∷◌, map, filter, zero, suc, arith, ◌<◌, length, get_or, Bool, true, false, not, bytes_eq, cond, Option, Some, None, refl, sym, ap, subst, ◌∙◌, true≢false}
-use Rattle.std.specs.Prelude.{Contains}
 use Rattle.std.specs.Borrow.{Bor}
-use Rattle.std.specs.List.{AllByRecursion, list_any}
+use Rattle.std.specs.List.{AllByRecursion}
 use Rattle.std.proofs.lemmas.List.{append-nil}
 use Rattle.std.proofs.lemmas.List.Elements.{filter-append}
 use Rattle.std.proofs.lemmas.Slice.Eq.{bytes_eq-Decides}
@@ -12,9 +11,9 @@ use Rattle.sqlite.specs.declared.types.Value.{Value}
 use Rattle.sqlite.specs.declared.types.Value.TheVariants.{Text}
 use Rattle.office.specs.Office.{Entry, Office, own}
 use Rattle.job_archives.specs.Names.{name_row}
-use Rattle.job_archives.specs.Parts.{begins_with, has_row, is_among, is_named, is_text, names_in, part_of, HasJobs, HasNoJobs, IsShared, IsSharedAmong, IsUnknown, IsUnknownAmong, IsWholeInOne}
+use Rattle.job_archives.specs.Parts.{begins_with, has_row, is_among, is_text, names_in, part_of, HasJobs, HasNoJobs, IsShared, IsSharedAmong, IsUnknown, IsUnknownAmong, IsWholeInOne}
 use Rattle.job_archives.specs.declared.customers.Customers.{Customers}
-use Rattle.job_archives.specs.declared.customers.Customers.TheVariants.{All, Named, Others}
+use Rattle.job_archives.specs.declared.customers.Customers.TheVariants.{Named, Others}
 
 -- two tests that no thing passes
 none_both : {X : Type 0} (p q : X → Bool) → ((x : X) → p x ≡ true → q x ≡ false) → (xs : List X) → filter p (filter q xs) ≡ []

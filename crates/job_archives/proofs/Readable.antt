@@ -1,7 +1,7 @@
 -- The record of a job that can be archived can be read.
-use Rattle.std.proofs.Common.{◌≡◌, ◌∙◌, ℕ, zero, suc, ◌+◌, ◌<◌, ◌≤◌, ◌^◌, ◌==◌, ◌&&◌, Bool, true, false, not, All, List, [], ◌∷◌, length, refl, ap, sym, subst, arith}
+use Rattle.std.proofs.Common.{◌≡◌, ℕ, suc, ◌+◌, ◌<◌, ◌^◌, ◌==◌, Bool, true, false, not, All, List, [], ◌∷◌, length, refl, subst, arith}
 use Rattle.std.specs.List.{AllByRecursion, list_all}
-use Rattle.std.proofs.lemmas.Bool.{eqb-true, leb-true}
+use Rattle.std.proofs.lemmas.Bool.{eqb-true}
 use Rattle.std.proofs.lemmas.List.Sums.{sum_by-cons}
 use Rattle.machine.specs.Ranges.{IsInRange}
 use Rattle.machine.specs.Run.{State}
@@ -9,7 +9,7 @@ use Rattle.machine.specs.Standings.{standing_at, standing_of}
 use Rattle.machine.specs.declared.standings.Standing.{Standing}
 use Rattle.machine.specs.declared.standings.Standing.TheVariants.{Running, Halted, Checked}
 use Rattle.office.specs.Jobs.{granted, picture, AreStretches, HasSwitches}
-use Rattle.texts.specs.Names.{is_customer, is_letter_or_digit, is_name_length, is_number, largest_number}
+use Rattle.texts.specs.Names.{is_customer, is_letter_or_digit, is_name_length, is_number}
 use Rattle.office.specs.Office.{Entry}
 use Rattle.office.specs.declared.stretches.Stretch.{Stretch}
 use Rattle.job_archives.proofs.RecordLaw.{standing_ends, IsAt, IsReadable}

@@ -1,5 +1,5 @@
 -- What the files of an archive hold is read back.
-use Rattle.std.proofs.Common.{◌≡◌, List, [], ◌∷◌, map, refl, ap, sym}
+use Rattle.std.proofs.Common.{◌≡◌, List, [], ◌∷◌, map, refl, ap}
 use Rattle.std.specs.List.{All as AllOf}
 use Rattle.std.proofs.lemmas.List.Elements.{All-map}
 use Rattle.cards.specs.Decks.{IsCard}

@@ -1,27 +1,23 @@
 -- A record is read back, group by group.
-use Rattle.std.proofs.Common.{◌≡◌, ◌∙◌, ℕ, ◌+◌, ◌<◌, ◌^◌, Bool, true, false, List, [], ◌∷◌, ◌++◌, codes, decimal, flat_map, get_or, length, refl, ap, sym, arith, append_assoc}
+use Rattle.std.proofs.Common.{◌≡◌, ◌∙◌, ℕ, ◌+◌, ◌<◌, ◌^◌, Bool, true, false, List, ◌++◌, codes, decimal, flat_map, get_or, length, refl, ap, sym, arith, append_assoc}
 use Rattle.std.specs.List.{AllByRecursion}
 use Rattle.std.specs.Prelude.{⊤}
 use Rattle.core_store.specs.Checks.{check_name}
 use Rattle.core_store.specs.Storage.{positions_of}
 use Rattle.core_store.specs.declared.checks.Check.{Check}
 use Rattle.core_store.specs.declared.checks.Check.TheVariants.{Address, Instruction, Data, Overlap, ReaderEmpty, PunchFull, PrinterFull}
-use Rattle.core_store.specs.declared.sizes.Size.{Size}
 use Rattle.core_store.proofs.SizeLemmas.{same_size, within}
 use Rattle.machine.specs.Standings.{standing_words}
 use Rattle.machine.specs.declared.standings.StandingAt.{StandingAt}
 use Rattle.machine.specs.declared.standings.StandingAt.TheVariants.{Running, Halted, Checked}
-use Rattle.units.specs.declared.pockets.Pocket.{Pocket}
 use Rattle.units.specs.declared.profiles.Profile.{Profile}
 use Rattle.units.specs.declared.profiles.Profile.TheVariants.{Plain, Selecting}
-use Rattle.units.specs.declared.punch.Punched.{Punched}
 use Rattle.units.specs.declared.units.Counts.{Counts}
 use Rattle.office.specs.Jobs.{Job, cards_by, picture}
 use Rattle.office.specs.Kept.{kept_of, summary_of}
 use Rattle.office.specs.Office.{Entry}
 use Rattle.office.specs.declared.commands.Kind.{Kind}
 use Rattle.office.specs.declared.commands.Kind.TheVariants.{Object, Autocoder}
-use Rattle.office.specs.declared.stretches.Stretch.{Stretch}
 use Rattle.office.specs.declared.summaries.Summary.{Summary}
 use Rattle.ledger.proofs.ReadingLemmas.{picture_before}
 use Rattle.job_archives.specs.Records.{deck_digests, digest_line, digest_lines, kind_word, line, made_lines, machine_lines, name_lines, pocket_lines, profile_word, record_of, standing_lines, stretch_line, yes_or_no}

@@ -1,20 +1,17 @@
 -- The lines of stretches and of pockets are read back.
-use Rattle.std.proofs.Common.{◌≡◌, ◌≢◌, ◌∙◌, ◌⊎◌, ℕ, ◌+◌, ◌<◌, ◌≤◌, ◌^◌, ◌==◌, Bool, true, false, List, [], ◌∷◌, ◌++◌, codes, decimal, drop, flat_map, get_or, length, map, refl, ap, sym, subst, arith, append_assoc, inl, inr}
-use Rattle.std.specs.Prelude.{Option, Some, None}
+use Rattle.std.proofs.Common.{◌≡◌, ◌≢◌, ◌∙◌, ◌⊎◌, ℕ, ◌+◌, ◌<◌, ◌^◌, ◌==◌, Bool, true, List, [], ◌∷◌, ◌++◌, decimal, drop, flat_map, get_or, length, map, refl, ap, sym, arith, append_assoc, inl, inr}
 use Rattle.std.specs.List.{AllByRecursion}
 use Rattle.std.specs.Option.{option_map_or}
-use Rattle.std.specs.Str.{bytes_eq}
 use Rattle.std.proofs.lemmas.Bool.{eqb-true}
 use Rattle.std.proofs.lemmas.Fmt.{decimal_injective}
 use Rattle.bcd.proofs.Tables.{at_each}
 use Rattle.units.specs.declared.pockets.Pocket.{Pocket}
 use Rattle.units.specs.declared.pockets.Pocket.TheVariants.{Normal, Four, Eight}
 use Rattle.units.specs.declared.punch.Punched.{Punched}
-use Rattle.units.specs.declared.switches.Switches.{Switches}
 use Rattle.office.specs.declared.stretches.Stretch.{Stretch}
 use Rattle.texts.specs.Switches.{letters_of, risen, text_of_bits}
 use Rattle.job_archives.specs.Records.{apart_line, pocket_line, pocket_lines, stretch_line}
-use Rattle.job_archives.proofs.WordsRead.{has_none, no_blank, no_end, same_pair, same_word}
+use Rattle.job_archives.proofs.WordsRead.{has_none, no_blank, no_end, same_pair}
 
 -- ---- switches
 

@@ -1,5 +1,5 @@
 -- the commands of scripts that hand an archived job in again
-use Rattle.std.specs.Prelude.{ℕ, ◌+◌, ◌*◌, ◌-◌, ◌/◌, ◌%◌, ◌==◌, nat_le, Bool, List, [], ◌∷◌, ◌++◌, codes, decimal, if◌then◌else◌, length, replicate}
+use Rattle.std.specs.Prelude.{ℕ, ◌*◌, ◌-◌, ◌/◌, ◌%◌, ◌==◌, nat_le, Bool, List, [], ◌++◌, codes, decimal, if◌then◌else◌, length, replicate}
 use Rattle.std.specs.List.{flat_map}
 use Rattle.cards.specs.Files.{text_of}
 use Rattle.core_store.specs.Storage.{positions_of}

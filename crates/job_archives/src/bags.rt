@@ -1,6 +1,6 @@
 //! The bag of a job's archive (BagIt 1.0, RFC 8493).
 
-ghost use Rattle.std.specs.Prelude.{◌≡◌, ◌<◌, ◌==◌, ◌++◌, codes, decimal, drop, length, position, IfOk, IfSome, OnOk};
+ghost use Rattle.std.specs.Prelude.{◌≡◌, ◌<◌, ◌==◌, ◌++◌, drop, length, position, IfOk, IfSome, OnOk};
 ghost use Rattle.job_archives.specs.{
   Archives.{files_as},
   Bags.{agent_line, are_tags, bag_files, bag_of, declaration, is_agent_line, is_info, is_line, is_same, job_name, manifest_line, manifest_of, octets_in, oxum_of, tag_files, tag_line, told_lines},

@@ -1,10 +1,9 @@
-use Rattle.std.proofs.Common.{◌≡◌, ◌++◌, [], ◌∷◌, List, Option, IsNone, refl, sym, ap, subst, take, arith, ◌∙◌}
+use Rattle.std.proofs.Common.{◌≡◌, ◌++◌, [], ◌∷◌, refl, sym, ap, subst, take, arith, ◌∙◌}
 use Rattle.std.proofs.lemmas.List.{take_more}
 use Rattle.std.specs.List.{AllByRecursion}
 use Rattle.sqlite.specs.Effect.{Database}
 use Rattle.sqlite.specs.Tree.{Trees}
 use Rattle.ledger_tables.specs.Schema.{bureau_schema}
-use Rattle.job_checks.specs.declared.reports.Table.{Table}
 use Rattle.job_checks.proofs.HandedRows.{unchanged_still, unchanged_then}
 use Rattle.job_archives.specs.Copies.{HaveSameJob, IsSameJob, JobDiffers, Tells}
 use Rattle.job_archives.proofs.CopyLemmas.{all_and_one, told_before}

@@ -1,4 +1,4 @@
-use Rattle.std.proofs.Common.{List, map, arith, sym, ap, ◌∙◌, true≢false}
+use Rattle.std.proofs.Common.{List, arith, sym, ap, ◌∙◌, true≢false}
 use Rattle.sqlite.specs.Order.{Row}
 use Rattle.job_archives.specs.Parts.{is_theirs}
 use Rattle.job_checks.proofs.RowLemmas.{other_default}

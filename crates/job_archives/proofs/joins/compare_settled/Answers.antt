@@ -1,6 +1,4 @@
-use Rattle.std.proofs.Common.{◌≡◌, rules}
-use Rattle.sqlite.specs.Held.{Held, state}
-use Rattle.sqlite.specs.State.{HasCleanDisk}
+use Rattle.std.proofs.Common.{rules}
 use Rattle.job_archives.specs.Joins.{ComparesBoth}
 use Rattle.job_archives.proofs.JoinLemmas.{three_settled, Ended}
 use Rattle.job_archives.proofs.joins.compare_settled.Goals as goal

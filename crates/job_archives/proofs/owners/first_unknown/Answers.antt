@@ -1,6 +1,4 @@
-use Rattle.std.proofs.Common.{◌≡◌, List, Option, ap, subst, sym, ◌∙◌}
-use Rattle.std.specs.Borrow.{Bor}
-use Rattle.sqlite.specs.Order.{Row}
+use Rattle.std.proofs.Common.{subst, ◌∙◌}
 use Rattle.job_archives.specs.Parts.{IsUnknownAmong}
 use Rattle.job_archives.proofs.PartLemmas.{unknown_of}
 use Rattle.job_archives.proofs.owners.first_unknown.Goals as goal

@@ -1,4 +1,4 @@
-use Rattle.std.proofs.Common.{◌≡◌, take}
+use Rattle.std.proofs.Common.{take}
 use Rattle.job_archives.specs.Parts.{IsSharedAmong}
 use Rattle.std.specs.Prelude.{None}
 use Rattle.job_archives.proofs.owners.shared_among.Given as goal

@@ -1,4 +1,4 @@
-use Rattle.std.proofs.Common.{◌≡◌, take}
+use Rattle.std.proofs.Common.{take}
 use Rattle.std.specs.Prelude.{None}
 use Rattle.job_archives.specs.Parts.{IsUnknownAmong}
 use Rattle.job_archives.proofs.owners.unknown_among.Given as goal
