@@ -31,6 +31,7 @@ mod signs;
 mod spans;
 mod statements;
 mod styles;
+mod working;
 
 pub use films::{Film, FilmError, FilmOptions, instructions_of};
 pub use laws::{changes_are_played, film_is_read, film_of_a_run_is_read};
