@@ -1,6 +1,6 @@
 -- the units of an operation by its character, and the length of an instruction
-use Rattle.std.proofs.Common.{◌≡◌, ℕ, ◌+◌, ◌-◌, ◌<◌, ◌≤◌, ◌==◌, ◌⊎◌, inl, inr, Bool, true, false, refl, ap, ◌∙◌, arith}
-use Rattle.std.specs.Prelude.{Option, Some, None, codes}
+use Rattle.std.proofs.Common.{◌≡◌, ℕ, ◌+◌, ◌-◌, ◌<◌, ◌≤◌, ◌==◌, inl, inr, Bool, true, false, refl, ap, ◌∙◌, arith}
+use Rattle.std.specs.Prelude.{Some, codes}
 use Rattle.std.proofs.lemmas.Bool.{eqb-true}
 use Rattle.bcd.specs.Table.{glyph_of}
 use Rattle.bcd.proofs.Tables.{at_each}
@@ -8,7 +8,7 @@ use Rattle.core_store.specs.Storage.{Storage, code_at}
 use Rattle.machine.specs.Glyphs.{is_glyph}
 use Rattle.machine.specs.Instructions.{operation_by}
 use Rattle.machine.specs.Operations.{operations, row_of}
-use Rattle.machine.specs.Word.{EndsAt, IsInstruction, word_length}
+use Rattle.machine.specs.Word.{EndsAt, word_length}
 use Rattle.machine.proofs.DecodeLaw.{length_ends}
 use Rattle.films.specs.Worked.{sum_of}
 
