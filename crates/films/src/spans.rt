@@ -116,7 +116,8 @@ pub(crate) fn push_work<C: Core>(
     if let Work::AtFields(a, b) = work {
         return push_fields(out, a, b, parts);
     }
-    if parts.standing.is_checked() {
+    let is_stopped = parts.standing.is_checked();
+    if is_stopped {
         return Ok(());
     }
     push_other(out, work)
