@@ -48,16 +48,16 @@ abbrev pub fields_spans : ℕ × ℕ → State → List (List ℕ)
 fields_spans fields m = if is_checked m.standing then address_spans fields
     else field_spans fields m.works.registers
 
--- the words for the areas of units, by the sum of their numbers: the printer's and the punch's, from
--- which a line or a card is made, and the reader's, in which a card is put
+-- the words for the areas of units, by the sum of their numbers: the printer's and the punch's,
+-- from which a line or a card is made, and the reader's, in which a card is put
 abbrev pub area_spans : ℕ → List (List ℕ)
 area_spans sum = (if prints (devices sum) then span (codes "A") 201 332 ∷ [] else [])
     ++ (if punches (devices sum) then span (codes "A") 101 180 ∷ [] else [])
     ++ (if reads (devices sum) then span (codes "B") 1 80 ∷ [] else [])
 
--- the words for the positions at which an instruction works that no check stops, but for fields: of
--- those that are cleared from the hundred on, of an address that is written the three up to its last
--- one, and the one that is tested
+-- the words for the positions at which an instruction works that no check stops, but for fields:
+-- of those that are cleared from the hundred on, of an address that is written the three up to its
+-- last one, and the one that is tested
 abbrev pub other_spans : Work → List (List ℕ)
 other_spans Nowhere = []
 other_spans (AtFields a b) = []
@@ -100,8 +100,8 @@ if_named (Err check) = None
 abbrev pub named_at : Storage → ℕ → Option ℕ
 named_at s p = if_named (operand s (code_at s p) (code_at s (p + 1)) (code_at s (p + 2)))
 
--- the position that the last address of an instruction of so many characters names, if it names one;
--- the one in register B if it has no address
+-- the position that the last address of an instruction of so many characters names, if it names
+-- one; the one in register B if it has no address
 abbrev pub last_named : Works → ℕ → Option ℕ
 last_named w count = if nat_lt count 4 then Some w.registers.b
     else named_at w.storage (w.registers.i + (if nat_lt count 7 then 1 else 4))
