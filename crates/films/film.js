@@ -99,16 +99,26 @@ const both = n => raws[n].padEnd(9) + steps[n].said;
 
 // ---- drawing
 const wide = () => $("slots").clientWidth >= 620 ? 50 : 25;
+// The rows of some positions that are shown: of more than three those that have something, the first two and the last.
+function shownRows(first, end, width, olds) {
+  const all = [], has = start => {
+    for (let p = Math.max(first, start); p <= end && p < start + width; p++) if (olds.has(p) || glyph[p] !== " ") return true;
+    return false;
+  };
+  for (let start = first - first % width; start <= end; start += width) all.push(start);
+  if (all.length <= 3) return all;
+  const some = all.filter(has);
+  if (!some.length) return all.slice(0, 1);
+  return some.length <= 3 ? some : [some[0], some[1], some[some.length - 1]];
+}
 function slot(name, spans, width, olds) {
   const box = put("div", "slot " + name.toLowerCase());
   box.append(put("b", "", name));
   if (!spans.length) { box.append(put("div", "empty", name === "I" ? "no instruction" : "none")); return box; }
   let used = 0;
   for (const {first, last: end} of spans) {
-    let from = first - first % width;
-    const to = end - end % width;
-    from = Math.max(from, to - 2 * width);
-    for (let start = from; start <= to && used < 5; start += width, used++) {
+    for (const start of shownRows(first, end, width, olds)) {
+      if (used++ >= 5) break;
       const row = put("div", "row"), cells = put("div", "cells");
       cells.style.setProperty("--w", width);
       row.append(put("small", "", five(start)), cells);

@@ -4,6 +4,7 @@ mod ChangeLaw
 mod ItemLemmas
 mod SourceLemmas
 mod StepLemmas
+mod WorkLemmas
 mod ItemsRead
 mod SignsRead
 mod TextsRead

@@ -15,10 +15,9 @@ use Rattle.films.specs.Changes.{Item, change, items_since, printed, punched}
 use Rattle.films.specs.Frames.{card_shown, cards_before, cards_of, form_of, frame_of, line_shown, lines_before, nothing, number_count, numbers_of, shown_of}
 use Rattle.films.specs.Steps.{Fits, IsMost, change_lines, most_bytes, step_lines}
 use Rattle.films.specs.Texts.{change_line, first_line, item_texts, items_text, said, spaced, statement_words, step_line, words_text}
-use Rattle.films.specs.Worked.{fields_spans, instruction_span, place_of, worked}
+use Rattle.films.specs.Worked.{instruction_span, place_of, work_of, work_spans, worked}
 use Rattle.films.specs.declared.filming.Place.{Place}
 use Rattle.films.specs.declared.items.Shown.{Shown}
-use Rattle.check_causes.specs.Worked.{fields_worked}
 use Rattle.machine.specs.Word.{word_length}
 
 -- ---- lines that are added
@@ -71,11 +70,11 @@ first_since lines cards size m =
     rw (map_twice printed line_shown (drop lines (lines_of m)), map_twice punched card_shown (drop cards (cards_of m))) refl
 
 pub step_since : (names : Option Named) (lines cards : ℕ) (m : State) → lines ≤ length (lines_of m) → cards ≤ length (cards_of m)
-    → change_line (statement_words (statement_next names m) ++ (instruction_span m.works.registers.i (word_length m.works.storage m.works.registers.i) ++ fields_spans (fields_worked m.works) (step m))
+    → change_line (statement_words (statement_next names m) ++ (instruction_span m.works.registers.i (word_length m.works.storage m.works.registers.i) ++ work_spans (work_of m.works) (step m))
     ++ item_texts (items_since (numbers_of m) (length (lines_of m)) (length (cards_of m)) m.works.storage (step m))) ≡ step_line names lines cards m
 unfolding step_line said worked
 step_since names lines cards m in_lines in_cards =
-    let front = statement_words (statement_next names m) ++ (instruction_span m.works.registers.i (word_length m.works.storage m.works.registers.i) ++ fields_spans (fields_worked m.works) (step m)) in
+    let front = statement_words (statement_next names m) ++ (instruction_span m.works.registers.i (word_length m.works.storage m.works.registers.i) ++ work_spans (work_of m.works) (step m)) in
     ap (λ items. change_line (front ++ item_texts items)) (sym (change_since lines cards m (step m) in_lines in_cards))
 
 pub first_line_pushed : (lines cards : ℕ) (m : State) (blank : Storage) (o a b d : List ℕ) → blank ≡ blank_storage (length m.works.storage) → a ≡ o ++ 67 ∷ []
@@ -225,10 +224,10 @@ size_within m now storage is after_it =
 
 pub step_text : (names : Option Named) (place : Place) (shown : Shown) (statement : List ℕ) (storage : Storage) (m now : State) (lines cards : ℕ) → statement ≡ statement_next names m → place ≡ place_of m
     → shown ≡ shown_of m → storage ≡ m.works.storage → now ≡ step m → lines ≤ length (lines_of m) → cards ≤ length (cards_of m)
-    → change_line (statement_words statement ++ (instruction_span place.i place.count ++ fields_spans place.fields now) ++ item_texts (items_since shown.numbers shown.lines shown.cards storage now)) ≡ step_line names lines cards m
+    → change_line (statement_words statement ++ (instruction_span place.i place.count ++ work_spans place.work now) ++ item_texts (items_since shown.numbers shown.lines shown.cards storage now)) ≡ step_line names lines cards m
 step_text names place shown statement storage m now lines cards is_statement is_place is_shown is_storage is_now in_lines in_cards =
     let line = λ (w : List ℕ) (p : Place) (s : Shown) (c : Storage) (x : State).
-    change_line (statement_words w ++ (instruction_span p.i p.count ++ fields_spans p.fields x) ++ item_texts (items_since s.numbers s.lines s.cards c x)) in
+    change_line (statement_words w ++ (instruction_span p.i p.count ++ work_spans p.work x) ++ item_texts (items_since s.numbers s.lines s.cards c x)) in
     ap (λ w. line w place shown storage now) is_statement
     ∙ ap (λ p. line (statement_next names m) p shown storage now) is_place
     ∙ ap (λ s. line (statement_next names m) (place_of m) s storage now) is_shown

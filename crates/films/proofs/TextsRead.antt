@@ -10,7 +10,6 @@ use Rattle.autocoder.specs.Listing.{fills}
 use Rattle.autocoder_layout.specs.declared.slots.Slot.{Slot}
 use Rattle.machine.specs.Run.{State, is_checked, step}
 use Rattle.machine.specs.Word.{word_length}
-use Rattle.check_causes.specs.Worked.{fields_worked}
 use Rattle.run_traces.specs.Names.{Named}
 use Rattle.pictures.specs.Reading.{pieces}
 use Rattle.pictures.proofs.PiecesRead.{has_none, none_in_both, one_piece, pieces_both}
@@ -19,8 +18,12 @@ use Rattle.films.specs.Films.{deck_line, deck_lines, named_lines, place_word, re
 use Rattle.films.specs.Reading.{changes_read, is_change, items_read, word_read, word_read_by}
 use Rattle.films.specs.Signs.{signs_on}
 use Rattle.films.specs.Texts.{change_line, item_texts, words_text}
-use Rattle.films.specs.Worked.{behind, fields_spans, instruction_span, span, worked}
+use Rattle.films.specs.Worked.{area_spans, behind, fields_spans, instruction_span, other_spans, span, work_of, work_spans, worked}
 use Rattle.films.specs.declared.signs.Surface.TheVariants.{OnCard}
+use Rattle.films.specs.declared.working.Work.{Work}
+use Rattle.films.specs.declared.working.Work.TheVariants.{Nowhere, AtFields, InAreas, Clears, Writes, Tests}
+use Rattle.machine.specs.Operations.{devices}
+use Rattle.units.specs.Units.{prints, punches, reads}
 use Rattle.films.proofs.ItemsRead.{IsClean, IsItem, item_again, word_clean}
 use Rattle.films.proofs.SignsRead.{signs_clean}
 
@@ -228,18 +231,59 @@ by_check : (b : Bool) (a1 a2 a3 a4 c1 c2 c3 c4 : ℕ) →
 by_check true a1 a2 a3 a4 c1 c2 c3 c4 = a_and_b a1 a2 a3 a4
 by_check false a1 a2 a3 a4 c1 c2 c3 c4 = a_and_b c1 c2 c3 c4
 
-by_fields : (fields : Option (ℕ × ℕ)) (m : State) → AreOther (fields_spans fields m)
-by_fields None m = (tt, refl)
-by_fields (Some fields) m =
-    by_check (is_checked m.standing) fields.0 fields.0 fields.1 fields.1 (behind m.works.registers.a) fields.0 (behind m.works.registers.b) fields.1
+by_fields : (a b : ℕ) (m : State) → AreOther (fields_spans (a, b) m)
+by_fields a b m =
+    by_check (is_checked m.standing) a a b b (behind m.works.registers.a) a (behind m.works.registers.b) b
+
+both_other : (xs ys : List (List ℕ)) → AreOther xs → AreOther ys → AreOther (xs ++ ys)
+both_other xs ys front back = (
+  both_words xs ys front.0 back.0,
+  flat_map-append word_read xs ys ∙ ap (λ read. read ++ flat_map word_read ys) front.1 ∙ back.1,
+)
+
+a_span : (first last : ℕ) → AreOther (span (codes "A") first last ∷ [])
+unfolding word_read_by
+a_span first last = ((span_clean 65 first last (refl, refl), tt), refl)
+
+b_span : (first last : ℕ) → AreOther (span (codes "B") first last ∷ [])
+unfolding word_read_by
+b_span first last = ((span_clean 66 first last (refl, refl), tt), refl)
+
+if_so : (b : Bool) (words : List (List ℕ)) → AreOther words → AreOther (if b then words else [])
+if_so true words other = other
+if_so false words other = (tt, refl)
+
+if_not : (b : Bool) (words : List (List ℕ)) → AreOther words → AreOther (if b then [] else words)
+if_not true words other = (tt, refl)
+if_not false words other = other
+
+areas_other : (sum : ℕ) → AreOther (area_spans sum)
+areas_other sum =
+    let line = if prints (devices sum) then span (codes "A") 201 332 ∷ [] else [] in
+    let card = if punches (devices sum) then span (codes "A") 101 180 ∷ [] else [] in
+    let taken = if reads (devices sum) then span (codes "B") 1 80 ∷ [] else [] in
+    both_other (line ++ card) taken
+    (both_other line card (if_so (prints (devices sum)) (span (codes "A") 201 332 ∷ []) (a_span 201 332)) (if_so (punches (devices sum)) (span (codes "A") 101 180 ∷ []) (a_span 101 180)))
+    (if_so (reads (devices sum)) (span (codes "B") 1 80 ∷ []) (b_span 1 80))
+
+by_other : (work : Work) → AreOther (other_spans work)
+by_other Nowhere = (tt, refl)
+by_other (AtFields a b) = (tt, refl)
+by_other (InAreas sum) = areas_other sum
+by_other (Clears position) = b_span (position - position % 100) position
+by_other (Writes position) = a_span (position - 2) position
+by_other (Tests position) = b_span position position
+
+by_work : (work : Work) (m : State) → AreOther (work_spans work m)
+by_work Nowhere m = (tt, refl)
+by_work (AtFields a b) m = by_fields a b m
+by_work (InAreas sum) m = if_not (is_checked m.standing) (other_spans (InAreas sum)) (by_other (InAreas sum))
+by_work (Clears position) m = if_not (is_checked m.standing) (other_spans (Clears position)) (by_other (Clears position))
+by_work (Writes position) m = if_not (is_checked m.standing) (other_spans (Writes position)) (by_other (Writes position))
+by_work (Tests position) m = if_not (is_checked m.standing) (other_spans (Tests position)) (by_other (Tests position))
 
 pub worked_other : (m : State) → AreOther (worked m)
 unfolding worked
 worked_other m =
-    let front = by_count m.works.registers.i (word_length m.works.storage m.works.registers.i) in
-    let back = by_fields (fields_worked m.works) (step m) in (
-      both_words (instruction_span m.works.registers.i (word_length m.works.storage m.works.registers.i)) (fields_spans (fields_worked m.works) (step m)) front.0 back.0,
-      flat_map-append word_read (instruction_span m.works.registers.i (word_length m.works.storage m.works.registers.i)) (fields_spans (fields_worked m.works) (step m))
-          ∙ ap (λ read. read ++ flat_map word_read (fields_spans (fields_worked m.works) (step m))) front.1
-          ∙ back.1,
-    )
+    both_other (instruction_span m.works.registers.i (word_length m.works.storage m.works.registers.i)) (work_spans (work_of m.works) (step m))
+    (by_count m.works.registers.i (word_length m.works.storage m.works.registers.i)) (by_work (work_of m.works) (step m))

@@ -10,16 +10,17 @@ ghost use Rattle.films.specs.{
   Frames.{cards_before, cards_of, lines_before, shown_of},
   Steps.{Fits, IsHindered, change_lines, most_bytes},
   Texts.{change_line, first_line, item_texts, statement_words, step_line},
-  Worked.{fields_spans, instruction_span, place_of},
+  Worked.{instruction_span, place_of, work_spans},
 };
 
 use crate::films::FilmError;
 use crate::items::{Shown, push_items};
 use crate::numbers::NUMBER_COUNT;
-use crate::spans::{push_fields, push_instruction};
+use crate::spans::{push_instruction, push_work};
 use crate::statements::{push_statement, statement_next};
+use crate::working::{Work, work_of};
 use cards::LINE_FEED;
-use check_causes::{fields_of, word_length};
+use check_causes::word_length;
 use core_store::Core;
 use machine::{Machine, Meter, Parts};
 use run_traces::Names;
@@ -36,8 +37,8 @@ struct Place {
     i: u16,
     /// The number of its characters, if there is an instruction.
     count: Option<u16>,
-    /// The positions at which the fields end that it works at, if it does.
-    fields: Option<(u16, u16)>,
+    /// Where it works.
+    work: Work,
 }
 
 /// The place of the instruction that a machine attempts next.
@@ -50,7 +51,7 @@ fn place_of<C: Core>(parts: &Parts<C>) -> Place
     Place {
         i,
         count: word_length(&parts.core, i),
-        fields: fields_of(parts),
+        work: work_of(parts),
     }
 }
 
@@ -71,7 +72,7 @@ fn push_step_line<C: Core>(
     requires cards { shown.now.cards ≤ length (cards_of parts.now) }
     ensures text { OnOk result (out.new.items ≡ out.old.items ++ change_line
         (statement_words statement.now
-        ++ (instruction_span place.i place.count ++ fields_spans place.fields parts.now)
+        ++ (instruction_span place.i place.count ++ work_spans place.work parts.now)
         ++ item_texts (items_since shown.now.numbers shown.now.lines shown.now.cards
         (C.cells storage.now) parts.now))) }
     ensures characters { OnOk result (All (λ cell. cell.0 < 64) parts.now.works.storage) }
@@ -79,7 +80,7 @@ fn push_step_line<C: Core>(
     out.push(b'C')?;
     push_statement(out, statement)?;
     push_instruction(out, place.i, place.count)?;
-    push_fields(out, place.fields, parts)?;
+    push_work(out, place.work, parts)?;
     push_items(out, shown, storage, parts)?;
     out.push(LINE_FEED)?;
     Ok(())

@@ -109,6 +109,18 @@ for (const place of others) add(place, both(addresses.indexOf(place)));\n\
 }\n\
 const both = n => raws[n].padEnd(9) + steps[n].said;\n\
 const wide = () => $(\"slots\").clientWidth >= 620 ? 50 : 25;\n\
+function shownRows(first, end, width, olds) {\n\
+const all = [], has = start => {\n\
+for (let p = Math.max(first, start); p <= end && p < start + width; p++) if (olds.has(p) || gl\
+yph[p] !== \" \") return true;\n\
+return false;\n\
+};\n\
+for (let start = first - first % width; start <= end; start += width) all.push(start);\n\
+if (all.length <= 3) return all;\n\
+const some = all.filter(has);\n\
+if (!some.length) return all.slice(0, 1);\n\
+return some.length <= 3 ? some : [some[0], some[1], some[some.length - 1]];\n\
+}\n\
 function slot(name, spans, width, olds) {\n\
 const box = put(\"div\", \"slot \" + name.toLowerCase());\n\
 box.append(put(\"b\", \"\", name));\n\
@@ -116,10 +128,8 @@ if (!spans.length) { box.append(put(\"div\", \"empty\", name === \"I\" ? \"no in
 \"none\")); return box; }\n\
 let used = 0;\n\
 for (const {first, last: end} of spans) {\n\
-let from = first - first % width;\n\
-const to = end - end % width;\n\
-from = Math.max(from, to - 2 * width);\n\
-for (let start = from; start <= to && used < 5; start += width, used++) {\n\
+for (const start of shownRows(first, end, width, olds)) {\n\
+if (used++ >= 5) break;\n\
 const row = put(\"div\", \"row\"), cells = put(\"div\", \"cells\");\n\
 cells.style.setProperty(\"--w\", width);\n\
 row.append(put(\"small\", \"\", five(start)), cells);\n\

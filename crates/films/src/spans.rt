@@ -1,12 +1,13 @@
 //! The positions at which a step works.
 
-ghost use Rattle.std.specs.Prelude.{◌≡◌, ◌+◌, ◌≤◌, ◌++◌, ◌∷◌, [], codes, IfSome, OnOk};
+ghost use Rattle.std.specs.Prelude.{◌≡◌, ◌+◌, ◌≤◌, ◌++◌, ◌∷◌, [], if◌then◌else◌, IfSome, OnOk};
 ghost use Rattle.core_store.specs.Storage.{largest_size};
 ghost use Rattle.films.specs.{
   Texts.{words_text},
-  Worked.{behind, fields_spans, instruction_span, span},
+  Worked.{area_spans, behind, fields_spans, instruction_span, other_spans, span, work_spans},
 };
 
+use crate::working::Work;
 use core_store::{Core, LARGEST_SIZE};
 use machine::Parts;
 use std::alloc::AllocError;
@@ -45,22 +46,79 @@ fn behind(register: u16) -> u16
     ((u32::from(register) + 1) % u32::from(LARGEST_SIZE)) as u16
 }
 
-/// Adds the words for the positions of the fields at which a step worked that left a machine.
-pub(crate) fn push_fields<C: Core>(
+/// Adds the words for the fields at which a step worked that left a machine.
+fn push_fields<C: Core>(
     out: &mut Vec<u8>,
-    fields: Option<(u16, u16)>,
+    a: u16,
+    b: u16,
     parts: &Parts<C>,
 ) -> Result<(), AllocError>
     ensures { OnOk result (out.new.items
-        ≡ out.old.items ++ words_text (fields_spans fields parts.now)) }
+        ≡ out.old.items ++ words_text (fields_spans (a, b) parts.now)) }
 {
-    let Some((a, b)) = fields else {
-        return Ok(());
-    };
     if parts.standing.is_checked() {
         push_span(out, b"A", a, a)?;
         return push_span(out, b"B", b, b);
     }
     push_span(out, b"A", behind(parts.registers.a), a)?;
     push_span(out, b"B", behind(parts.registers.b), b)
+}
+
+/// Adds the word for an area, if it is one of those at which an operation works.
+fn push_area(
+    out: &mut Vec<u8>,
+    works: bool,
+    letter: &[u8],
+    first: u16,
+    last: u16,
+) -> Result<(), AllocError>
+    ensures { OnOk result (out.new.items ≡ out.old.items
+        ++ words_text (if works then span letter.now first last ∷ [] else [])) }
+{
+    if works {
+        return push_span(out, letter, first, last);
+    }
+    Ok(())
+}
+
+/// Adds the words for the areas of units, by the sum of their numbers.
+fn push_areas(out: &mut Vec<u8>, sum: u8) -> Result<(), AllocError>
+    ensures { OnOk result (out.new.items ≡ out.old.items ++ words_text (area_spans sum)) }
+{
+    push_area(out, sum & 2 == 2, b"A", 201, 332)?;
+    push_area(out, sum & 4 == 4, b"A", 101, 180)?;
+    push_area(out, sum & 1 == 1, b"B", 1, 80)
+}
+
+/// Adds the words for the positions at which an instruction works that no check stops, but for
+/// fields.
+fn push_other(out: &mut Vec<u8>, work: Work) -> Result<(), AllocError>
+    ensures { OnOk result (out.new.items ≡ out.old.items ++ words_text (other_spans work)) }
+{
+    match work {
+        Work::Nowhere | Work::AtFields(_, _) => Ok(()),
+        Work::InAreas(sum) => push_areas(out, sum),
+        Work::Clears(position) => push_span(out, b"B", position - position % 100, position),
+        Work::Writes(position) => push_span(out, b"A", position.saturating_sub(2), position),
+        Work::Tests(position) => push_span(out, b"B", position, position),
+    }
+}
+
+/// Adds the words for the positions at which an instruction worked whose step left a machine.
+pub(crate) fn push_work<C: Core>(
+    out: &mut Vec<u8>,
+    work: Work,
+    parts: &Parts<C>,
+) -> Result<(), AllocError>
+    ensures { OnOk result (out.new.items
+        ≡ out.old.items ++ words_text (work_spans work parts.now)) }
+{
+    if let Work::AtFields(a, b) = work {
+        return push_fields(out, a, b, parts);
+    }
+    let is_stopped = parts.standing.is_checked();
+    if is_stopped {
+        return Ok(());
+    }
+    push_other(out, work)
 }
