@@ -49,7 +49,7 @@ fn with_index<C: Core>(core: &C, base: u16, location: IndexLocation) -> Result<u
 /// The number that an address represents, always below 16000: its base, plus the number at its
 /// index location if it names one. Check ADDRESS if the index location cannot be read.
 #[tactic(auto, unfolding(crate::specs::Effective::with_index))]
-pub fn effective_address<C: Core>(core: &C, tagged: Tagged) -> Result<u16, Check>
+pub fn indexed<C: Core>(core: &C, tagged: Tagged) -> Result<u16, Check>
     ensures number { result ≡ effective (C.cells core.now) tagged }
     ensures below { IfOk result (λ number. number < largest_size) }
 {

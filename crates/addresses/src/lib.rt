@@ -16,7 +16,7 @@ mod tagged;
 mod written;
 
 pub use digits::digit_under;
-pub use effective::{base_ending, effective_address, position};
+pub use effective::{base_ending, indexed, position};
 pub use stored::{has_three, put_three, store};
 pub use tagged::{IndexLocation, Tagged, decode};
 pub use written::{encode, encode_tagged, written_is_read};

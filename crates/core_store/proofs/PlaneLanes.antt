@@ -1,4 +1,4 @@
--- the last of sixteen bytes that is not 0
+-- the last of some bytes that is not 0
 use Rattle.std.proofs.Common.{◌≡◌, ◌≢◌, ℕ, suc, ◌+◌, ◌-◌, ◌/◌, ◌%◌, ◌^◌, ◌<◌, ◌≤◌, ◌∙◌, Bool, true, false, cond, List, get_or, length, map, ap, sym, refl, arith}
 use Rattle.std.specs.Simd.Lanes.{mask_l, chunk}
 use Rattle.std.specs.Int.Count.{count_leading_zeros}
@@ -29,41 +29,41 @@ top_of_mask ms j le lt =
     let one : mask_l ms / 2 ^ j ≡ 1 = div-eq_of_lt-le {k = 1} (2 ^ j) (omega arith) (omega (arith, pow-suc 2 j)) in
     set_bit (get_or ms j false) (mask_l ms / 2 ^ j % 2) (bit_mask_l ms j) (ap (λ n. n % 2) one)
 
-module _ (marks : List ℕ) (place mask : ℕ) (within : place < length marks) (room : 15 ≤ place) (is : mask ≡ mask_l (map is_some (chunk (place - 15) 16 marks))) where
-  long : length (chunk (place - 15) 16 marks) ≡ 16
-  long = length-chunk (place - 15) 16 marks (omega arith)
+module _ (marks : List ℕ) (place start width mask : ℕ) (within : place < length marks) (ends : start + width ≡ suc place) (few : width ≤ 64) (is : mask ≡ mask_l (map is_some (chunk start width marks))) where
+  long : length (chunk start width marks) ≡ width
+  long = length-chunk start width marks (omega arith)
 
-  byte : (i : ℕ) → i < 16 → get_or (map is_some (chunk (place - 15) 16 marks)) i false ≡ is_some (get_or marks (place - 15 + i) 0)
-  byte i lt = get_or-map is_some (chunk (place - 15) 16 marks) i 0 false (omega (arith, long)) ∙ ap is_some (get_or-chunk (place - 15) 16 marks i 0 lt)
+  byte : (i : ℕ) → i < width → get_or (map is_some (chunk start width marks)) i false ≡ is_some (get_or marks (start + i) 0)
+  byte i lt = get_or-map is_some (chunk start width marks) i 0 false (omega (arith, long)) ∙ ap is_some (get_or-chunk start width marks i 0 lt)
 
-  pub none_before : mask ≡ 0 → (k : ℕ) → k < 16 → get_or marks (place - k) 0 ≡ 0
+  pub none_before : mask ≡ 0 → (k : ℕ) → k < width → get_or marks (place - k) 0 ≡ 0
   none_before none k lt =
-      not_zero (get_or marks (place - k) 0) (none_from_empty_mask is_some marks (place - 15) 16 0 (omega arith) (sym is ∙ none) (place - k) (omega arith) (omega arith))
+      not_zero (get_or marks (place - k) 0) (none_from_empty_mask is_some marks start width 0 (omega arith) (sym is ∙ none) (place - k) (omega arith) (omega arith))
 
-  small : mask < 2 ^ 16
+  small : mask < 2 ^ width
   small =
-      let size : length (map is_some (chunk (place - 15) 16 marks)) ≡ 16 = length-map (chunk (place - 15) 16 marks) is_some ∙ long in
-      let bound : mask_l (map is_some (chunk (place - 15) 16 marks)) < 2 ^ 16 = rw size at (mask_l-lt (map is_some (chunk (place - 15) 16 marks))) in
+      let size : length (map is_some (chunk start width marks)) ≡ width = length-map (chunk start width marks) is_some ∙ long in
+      let bound : mask_l (map is_some (chunk start width marks)) < 2 ^ width = rw size at (mask_l-lt (map is_some (chunk start width marks))) in
       omega (arith, bound, is)
 
   -- the top bit of the mask
   pub record Top : Type 0 where
     pub at : ℕ
-    pub near : at < 16
+    pub near : at < width
     pub zeros : count_leading_zeros 64 mask + suc at ≡ 64
     pub least : 2 ^ at ≤ mask
     pub below : mask < 2 ^ suc at
 
   pub top : mask ≢ 0 → Top
   top some =
-      let wide : mask < 2 ^ 64 = omega (arith, small, pow_mono {i = 16} {j = 64} (omega arith)) in
+      let wide : mask < 2 ^ 64 = omega (arith, small, pow_mono {i = width} {j = 64} few) in
       let (j, zeros, least, below) = leading_top 64 mask (omega (arith, some)) wide in
       record {
         at = j;
         near =
-            elim (dec_lt j 16) [
+            elim (dec_lt j width) [
               | yes lt ↦ lt
-              | no ge ↦ absurd (omega (arith, small, least, pow_mono {i = 16} {j = j} (omega arith)))
+              | no ge ↦ absurd (omega (arith, small, least, pow_mono {i = width} {j = j} (omega arith)))
             ];
         zeros = zeros;
         least = least;
@@ -71,20 +71,20 @@ module _ (marks : List ℕ) (place mask : ℕ) (within : place < length marks) (
       }
 
   -- no byte is marked that is nearer than the one of the top bit
-  pub none_nearer : (t : Top) (k : ℕ) → t.at + k < 15 → get_or marks (place - k) 0 ≡ 0
+  pub none_nearer : (t : Top) (k : ℕ) → t.at + suc k < width → get_or marks (place - k) 0 ≡ 0
   none_nearer t k lt =
-      let bound : mask_l (map is_some (chunk (place - 15) 16 marks)) < 2 ^ (15 - k) = omega (arith, is, t.below, pow_mono {i = suc t.at} {j = 15 - k} (omega arith)) in
-      let here : place - 15 + (15 - k) ≡ place - k = omega arith in
+      let bound : mask_l (map is_some (chunk start width marks)) < 2 ^ (width - 1 - k) = omega (arith, is, t.below, pow_mono {i = suc t.at} {j = width - 1 - k} (omega arith)) in
+      let here : start + (width - 1 - k) ≡ place - k = omega arith in
       not_zero (get_or marks (place - k) 0)
-      (ap (λ n. is_some (get_or marks n 0)) (sym here) ∙ sym (byte (15 - k) (omega arith)) ∙ above_mask (map is_some (chunk (place - 15) 16 marks)) (15 - k) bound)
+      (ap (λ n. is_some (get_or marks n 0)) (sym here) ∙ sym (byte (width - 1 - k) (omega arith)) ∙ above_mask (map is_some (chunk start width marks)) (width - 1 - k) bound)
 
   -- and that one is marked
-  pub top_marked : (t : Top) (k : ℕ) → t.at + k ≡ 15 → get_or marks (place - k) 0 ≢ 0
+  pub top_marked : (t : Top) (k : ℕ) → t.at + suc k ≡ width → get_or marks (place - k) 0 ≢ 0
   top_marked t k same =
-      let here : place - 15 + t.at ≡ place - k = omega (arith, t.near) in
+      let here : start + t.at ≡ place - k = omega (arith, t.near) in
       some_is (get_or marks (place - k) 0)
       (ap (λ n. is_some (get_or marks n 0)) (sym here) ∙ sym (byte t.at t.near)
-      ∙ top_of_mask (map is_some (chunk (place - 15) 16 marks)) t.at (omega (arith, is, t.least)) (omega (arith, is, t.below)))
+      ∙ top_of_mask (map is_some (chunk start width marks)) t.at (omega (arith, is, t.least)) (omega (arith, is, t.below)))
 
 -- what was passed over on the way to a mark
 pub passed_over : (marks : List ℕ) (end run place : ℕ) → ((k : ℕ) → k < run → get_or marks (end - 1 - k) 0 ≡ 0) → ((k : ℕ) → end ≤ k → k ≤ place → get_or marks k 0 ≡ 0) →

@@ -174,9 +174,7 @@ impl<S: Alter> Bureau<S> {
     {
         self.broken
     }
-}
 
-impl<S: Alter + Drop> Bureau<S> {
     /// Creates a bureau without jobs, in a store without tables. It fails with 2 if a name of its
     /// tables is taken, and nothing is changed then. After fault 1 nothing was created; else after
     /// fault 2 the tables are there or not, and the file has to be opened again.

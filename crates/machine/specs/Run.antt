@@ -10,7 +10,7 @@ use Rattle.machine.specs.declared.operations.Course.TheVariants.{GoesOn, Halts}
 use Rattle.machine.specs.declared.standings.Standing.{Standing}
 use Rattle.machine.specs.declared.standings.Standing.TheVariants.{Running, Halted, Checked}
 use Rattle.machine.specs.declared.standings.Event.{Event}
-use Rattle.machine.specs.declared.standings.Event.TheVariants.{Next, Halt, Stop}
+use Rattle.machine.specs.declared.standings.Event.TheVariants.{Next, Halt}
 use Rattle.units.specs.declared.pockets.Pocket.TheVariants.{Normal}
 use Rattle.units.specs.declared.printer.Line.{Line}
 use Rattle.units.specs.declared.profiles.Profile.{Profile}
@@ -53,7 +53,7 @@ standing_after Halts = Halted
 abbrev pub event_of : Standing → Event
 event_of Running = Next
 event_of Halted = Halt
-event_of (Checked check) = Stop check
+event_of (Checked check) = Event.Check check
 
 -- the 80 characters of a deck's first card, none if there is no card
 abbrev pub first_card : List Card → List ℕ

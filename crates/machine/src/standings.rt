@@ -29,7 +29,7 @@ pub enum Event {
     /// It is at a halt.
     Halt,
     /// It is at a check.
-    Stop(Check),
+    Check(Check),
 }
 
 impl Standing {
@@ -40,7 +40,7 @@ impl Standing {
         match self {
             Standing::Running => Event::Next,
             Standing::Halted => Event::Halt,
-            Standing::Checked(check) => Event::Stop(check),
+            Standing::Checked(check) => Event::Check(check),
         }
     }
 

@@ -14,9 +14,9 @@ pub(crate) const READ: &str = "\
 16000 positions, A 10 B 20|~B0/5~|87 001|92 020|97 300| -> I 16 A 16 B 404 |001|020|300|
 16000 positions, A 10 B 20|~B3J5~|87 001|92 020|97 300| -> I 335 A 335 B 404 |001|020|300|
 16000 positions, A 10 B 20|~B0?0~|87 001|92 020|97 300| -> I 300 A 300 B 404 |001|020|300|
-16000 positions, A 10 B 20|~B#00~|87 001| -> Stop(Address) I 400 A 10 B 20 |001|
-16000 positions, A 10 B 20|~B0@0~|87 001| -> Stop(Address) I 400 A 10 B 20 |001|
-16000 positions, A 10 B 20|~B00.~|87 001| -> Stop(Address) I 400 A 10 B 20 |001|
+16000 positions, A 10 B 20|~B#00~|87 001| -> Check(Address) I 400 A 10 B 20 |001|
+16000 positions, A 10 B 20|~B0@0~|87 001| -> Check(Address) I 400 A 10 B 20 |001|
+16000 positions, A 10 B 20|~B00.~|87 001| -> Check(Address) I 400 A 10 B 20 |001|
 ";
 
 /// The same bases, as they are written.
@@ -36,7 +36,7 @@ pub(crate) const INDEXED: &str = "\
 A 10 B 20|~B3J5~|92 005| -> I 320 A 320 B 404 |005|
 A 10 B 20|~B3J5~|92 0/5| -> I 330 A 330 B 404 |0/5|
 A 10 B 20|~B3J5~|92 I9I| -> I 314 A 314 B 404 |I9I|
-A 10 B 20|~B3J5~|92 0#5| -> Stop(Address) I 400 A 10 B 20 |0#5|
+A 10 B 20|~B3J5~|92 0#5| -> Check(Address) I 400 A 10 B 20 |0#5|
 A 10 B 20|~B315~|92 0#5| -> I 315 A 315 B 404 |0#5|
 ";
 
@@ -44,23 +44,23 @@ A 10 B 20|~B315~|92 0#5| -> I 315 A 315 B 404 |0#5|
 /// past 15999.
 pub(crate) const OPERANDS: &str = "\
 4000 positions, A 10 B 20|~,I99~|87 091|3999  | -> I 404 A 3998 B 3998 |091|~ |
-4000 positions, A 10 B 20|~,00!~|87 091| -> Stop(Address) I 400 A 10 B 20 |091|
-4000 positions, A 10 B 20|~,I9I~|87 091| -> Stop(Address) I 400 A 10 B 20 |091|
-4000 positions, A 10 B 20|~,#00~|87 091| -> Stop(Address) I 400 A 10 B 20 |091|
+4000 positions, A 10 B 20|~,00!~|87 091| -> Check(Address) I 400 A 10 B 20 |091|
+4000 positions, A 10 B 20|~,I9I~|87 091| -> Check(Address) I 400 A 10 B 20 |091|
+4000 positions, A 10 B 20|~,#00~|87 091| -> Check(Address) I 400 A 10 B 20 |091|
 4000 positions, A 10 B 20|~,I?9~|87 091|3909  | -> I 404 A 3908 B 3908 |091|~ |
-4000 positions, A 10 B 20|~,I/9~|87 091| -> Stop(Address) I 400 A 10 B 20 |091|
+4000 positions, A 10 B 20|~,I/9~|87 091| -> Check(Address) I 400 A 10 B 20 |091|
 8000 positions, A 10 B 20|~,I/9~|87 091|4010  | -> I 404 A 4009 B 4009 |091|~ |
 8000 positions, A 10 B 20|~,I9Z~|87 091|7999  | -> I 404 A 7998 B 7998 |091|~ |
-8000 positions, A 10 B 20|~,00!~|87 091| -> Stop(Address) I 400 A 10 B 20 |091|
-8000 positions, A 10 B 20|~,I/Z~|87 091| -> Stop(Address) I 400 A 10 B 20 |091|
+8000 positions, A 10 B 20|~,00!~|87 091| -> Check(Address) I 400 A 10 B 20 |091|
+8000 positions, A 10 B 20|~,I/Z~|87 091| -> Check(Address) I 400 A 10 B 20 |091|
 12000 positions, A 10 B 20|~,00!~|87 091|8000  | -> I 404 A 7999 B 7999 |091|~ |
 12000 positions, A 10 B 20|~,I/Z~|87 091|8010  | -> I 404 A 8009 B 8009 |091|~ |
 12000 positions, A 10 B 20|~,I9R~|87 091|11999  | -> I 404 A 11998 B 11998 |091|~ |
-12000 positions, A 10 B 20|~,00?~|87 091| -> Stop(Address) I 400 A 10 B 20 |091|
+12000 positions, A 10 B 20|~,00?~|87 091| -> Check(Address) I 400 A 10 B 20 |091|
 16000 positions, A 10 B 20|~,00!~|87 091|8000  | -> I 404 A 7999 B 7999 |091|~ |
 16000 positions, A 10 B 20|~,00?~|87 091|12000  | -> I 404 A 11999 B 11999 |091|~ |
 16000 positions, A 10 B 20|~,I9I~|87 091|15999  | -> I 404 A 15998 B 15998 |091|~ |
-16000 positions, A 10 B 20|~,#00~|87 091| -> Stop(Address) I 400 A 10 B 20 |091|
+16000 positions, A 10 B 20|~,#00~|87 091| -> Check(Address) I 400 A 10 B 20 |091|
 16000 positions, A 10 B 20|~,I/I~|87 091|10  | -> I 404 A 9 B 9 |091|~ |
 A 10 B 20|~,I/I~|87 091|10  | -> I 404 A 9 B 9 |091|~ |
 ";
@@ -68,6 +68,6 @@ A 10 B 20|~,I/I~|87 091|10  | -> I 404 A 9 B 9 |091|~ |
 /// Numbers stored at the beginning of the storage, and without room for them.
 pub(crate) const STORED: &str = "\
 A 10 B 200|~H002~|0     | -> I 404 A 15999 B 200 |200 |
-A 10 B 200|~H001~|0     | -> Stop(Address) I 400 A 10 B 200 |    |
-A 10 B 200|~HU00~|1397    | -> Stop(Address) I 400 A 10 B 200 |   |
+A 10 B 200|~H001~|0     | -> Check(Address) I 400 A 10 B 200 |    |
+A 10 B 200|~HU00~|1397    | -> Check(Address) I 400 A 10 B 200 |   |
 ";

@@ -163,7 +163,7 @@ fn goes_on(alloc: Global, draws: &mut Draws, positions: u16, operation: u8) -> R
     if outcome.contains(" BUT ") {
         return Err(Fail::new(format_args!("{row} -> {outcome}")));
     }
-    Ok(!outcome.starts_with("Stop"))
+    Ok(!outcome.starts_with("Check"))
 }
 
 /// Draws so many rows for each operation. Fails if the two kinds of storage differ, or if few rows

@@ -108,39 +108,39 @@ A 104 B 205|~E~|101 ~0?0?|201 ~ ,  0| -> I 401 A 100 B 200 |~0?0?|  ?  |
 A 104 B 205|~E~|101 ~0!0!|201 ~  0 -| -> I 401 A 100 B 200 |~0!0!| ! 0-|
 A 103 B 204|~E~|101 ~0J0|201 ~  0-| -> I 401 A 100 B 200 |~0J0| J  |
 A 209 B 206|~E~|207 ~123|201 ~   ,0C| -> I 401 A 206 B 200 |~123| 12,3 |
-A 208 B 206|~E~|201 ~   ,0C12| -> Stop(Overlap) I 400 A 208 B 206 |~   ,0C12|
+A 208 B 206|~E~|201 ~   ,0C12| -> Check(Overlap) I 400 A 208 B 206 |~   ,0C12|
 A 200 B 206|~E~|198 ~123|201 ~   ,0C| -> I 401 A 197 B 200 |~123| 12,3 |
 A 201 B 206|~E~|198 ~1234|202 ~   0C| -> I 401 A 197 B 201 |~1234|1234 |
-A 203 B 206|~E~|201 ~   ,0C| -> Stop(Overlap) I 400 A 203 B 206 |~   ,0C|
+A 203 B 206|~E~|201 ~   ,0C| -> Check(Overlap) I 400 A 203 B 206 |~   ,0C|
 ";
 
 /// Fields that are overwritten, positions outside the storage, and fields that would pass position
 /// 0. At last the positions that are just inside, and fields that are overwritten just not.
 pub(crate) const CHECKS: &str = "\
-A 105 B 103|~L~|99 ~123 567| -> Stop(Address) I 400 A 105 B 103 |~123 567|
-A 105 B 103|~Z~|99 ~123 567| -> Stop(Overlap) I 400 A 105 B 103 |~123 567|
-A 105 B 105|~E~|99 ~123 567| -> Stop(Overlap) I 400 A 105 B 105 |~123 567|
-A 8 B 1400|~M~|4 ~ 2345| -> Stop(Address) I 400 A 8 B 1400 |~ 2345|
-A 8 B 1400|~L~|4 ~ 2345| -> Stop(Address) I 400 A 8 B 1400 |~ 2345|
-A 8 B 1400|~D~|4 ~ 2345| -> Stop(Address) I 400 A 8 B 1400 |~ 2345|
-A 8 B 1400|~Y~|4 ~ 2345| -> Stop(Address) I 400 A 8 B 1400 |~ 2345|
-A 8 B 1400|~Z~|4 ~ 2345| -> Stop(Address) I 400 A 8 B 1400 |~ 2345|
-A 8 B 1400|~E~|4 ~ 2345| -> Stop(Address) I 400 A 8 B 1400 |~ 2345|
-A 8 B 1400|~,008U00~|4 ~ 2345| -> Stop(Address) I 400 A 8 B 1400 |~ 2345|
-A 8 B 1400|~)008U00~|4 ~ 2345| -> Stop(Address) I 400 A 8 B 1400 |~ 2345|
-A 8 B 1400|~/~|4 ~ 2345| -> Stop(Address) I 400 A 8 B 1400 |~ 2345|
-A 8 B 3|~M~|0     ~     | -> Stop(Address) I 400 A 8 B 3 |    ~     |
-A 3 B 8|~M~|0     ~     | -> Stop(Address) I 400 A 3 B 8 |    ~     |
-A 2 B 3|~M~|0     ~     | -> Stop(Address) I 400 A 2 B 3 |    ~     |
-A 8 B 3|~L~|0     ~     | -> Stop(Address) I 400 A 8 B 3 |    ~     |
-A 3 B 8|~L~|0     ~     | -> Stop(Address) I 400 A 3 B 8 |    ~     |
-A 8 B 3|~Z~|0     ~     | -> Stop(Address) I 400 A 8 B 3 |    ~     |
-A 3 B 8|~Z~|0     ~     | -> Stop(Address) I 400 A 3 B 8 |    ~     |
-A 3 B 8|~E~|0     ~     | -> Stop(Address) I 400 A 3 B 8 |    ~     |
+A 105 B 103|~L~|99 ~123 567| -> Check(Address) I 400 A 105 B 103 |~123 567|
+A 105 B 103|~Z~|99 ~123 567| -> Check(Overlap) I 400 A 105 B 103 |~123 567|
+A 105 B 105|~E~|99 ~123 567| -> Check(Overlap) I 400 A 105 B 105 |~123 567|
+A 8 B 1400|~M~|4 ~ 2345| -> Check(Address) I 400 A 8 B 1400 |~ 2345|
+A 8 B 1400|~L~|4 ~ 2345| -> Check(Address) I 400 A 8 B 1400 |~ 2345|
+A 8 B 1400|~D~|4 ~ 2345| -> Check(Address) I 400 A 8 B 1400 |~ 2345|
+A 8 B 1400|~Y~|4 ~ 2345| -> Check(Address) I 400 A 8 B 1400 |~ 2345|
+A 8 B 1400|~Z~|4 ~ 2345| -> Check(Address) I 400 A 8 B 1400 |~ 2345|
+A 8 B 1400|~E~|4 ~ 2345| -> Check(Address) I 400 A 8 B 1400 |~ 2345|
+A 8 B 1400|~,008U00~|4 ~ 2345| -> Check(Address) I 400 A 8 B 1400 |~ 2345|
+A 8 B 1400|~)008U00~|4 ~ 2345| -> Check(Address) I 400 A 8 B 1400 |~ 2345|
+A 8 B 1400|~/~|4 ~ 2345| -> Check(Address) I 400 A 8 B 1400 |~ 2345|
+A 8 B 3|~M~|0     ~     | -> Check(Address) I 400 A 8 B 3 |    ~     |
+A 3 B 8|~M~|0     ~     | -> Check(Address) I 400 A 3 B 8 |    ~     |
+A 2 B 3|~M~|0     ~     | -> Check(Address) I 400 A 2 B 3 |    ~     |
+A 8 B 3|~L~|0     ~     | -> Check(Address) I 400 A 8 B 3 |    ~     |
+A 3 B 8|~L~|0     ~     | -> Check(Address) I 400 A 3 B 8 |    ~     |
+A 8 B 3|~Z~|0     ~     | -> Check(Address) I 400 A 8 B 3 |    ~     |
+A 3 B 8|~Z~|0     ~     | -> Check(Address) I 400 A 3 B 8 |    ~     |
+A 3 B 8|~E~|0     ~     | -> Check(Address) I 400 A 3 B 8 |    ~     |
 A 0 B 1399|~D~|0 5|1399 7| -> I 401 A 15999 B 1398 |5|5|
-A 1400 B 0|~D~|0 7| -> Stop(Address) I 400 A 1400 B 0 |7|
-A 0 B 1400|~D~|0 5| -> Stop(Address) I 400 A 0 B 1400 |5|
-A 105 B 103|~Z~|101 12~567| -> Stop(Overlap) I 400 A 105 B 103 |12~567|
+A 1400 B 0|~D~|0 7| -> Check(Address) I 400 A 1400 B 0 |7|
+A 0 B 1400|~D~|0 5| -> Check(Address) I 400 A 0 B 1400 |5|
+A 105 B 103|~Z~|101 12~567| -> Check(Overlap) I 400 A 105 B 103 |12~567|
 A 105 B 103|~Z~|102 12~67| -> I 401 A 103 B 101 |67~67|
-A 8 B 3|~E~|0     ~     | -> Stop(Address) I 400 A 8 B 3 |    ~     |
+A 8 B 3|~E~|0     ~     | -> Check(Address) I 400 A 8 B 3 |    ~     |
 ";

@@ -171,9 +171,9 @@ const KEPT: &str = "\
 6 steps, A 10 B 20|~D010410~D011030~D012010~B400~|10 1638|30 0|407 ~D011030| \
     -> I 414 A 12 B 29 |3638|8|~D013030|
 4 steps, A 10 B 20|~N000000~,404~B400~|8 AB| -> I 404 A 400 B 415 |AB|
-5 steps, A 10 B 20|~N000000~,404~B400~|8 AB| -> Stop(Instruction) I 404 A 400 B 415 |AB|
+5 steps, A 10 B 20|~N000000~,404~B400~|8 AB| -> Check(Instruction) I 404 A 400 B 415 |AB|
 3 steps, A 10 B 20|~B500009X~)408~B400~|9 A| -> I 400 A 400 B 416 |A|
-4 steps, A 10 B 20|~B500009X~)408~B400~|9 A| -> Stop(Instruction) I 400 A 400 B 416 |A|
+4 steps, A 10 B 20|~B500009X~)408~B400~|9 A| -> Check(Instruction) I 400 A 400 B 416 |A|
 3 steps, A 10 B 20|~A010020~B912~|8 ~001|18 ~005|912 ~S010020~B400~| \
     -> I 919 A 7 B 17 |~001|~00E|~S010020~B400|
 5 steps, A 10 B 20|~A010020~B912~|8 ~001|18 ~005|912 ~S010020~B400~| \
@@ -197,10 +197,10 @@ const LARGE_STORAGES: &str = "\
     -> I 15997 A 7 B 17 |~005|~A010020~ |~128|
 8000 positions, A 10 B 20|~A010I9Z~|8 ~005|7997 ~123| -> I 407 A 7 B 7996 |~005|~128|
 8000 positions, A 10 B 20|~A01000!~|8 ~005|7997 ~123| \
-    -> Stop(Address) I 400 A 10 B 20 |~005|~123|
+    -> Check(Address) I 400 A 10 B 20 |~005|~123|
 12000 positions, A 10 B 20|~A010I9R~|8 ~005|11997 ~123| -> I 407 A 7 B 11996 |~005|~128|
 12000 positions, A 10 B 20|~A01000?~|8 ~005|11997 ~123| \
-    -> Stop(Address) I 400 A 10 B 20 |~005|~123|
+    -> Check(Address) I 400 A 10 B 20 |~005|~123|
 ";
 
 /// Branches on each condition, on a character, and on marks and zones.
@@ -239,22 +239,22 @@ A 10 B 20|~B100020K~|8 AB|18 ~ZZJ| -> I 408 A 100 B 19 |AB|~ZZJ|
 
 /// Instructions to which a check applies. If several apply, the first one counts.
 const CHECKS: &str = "\
-A 10 B 20|~B100H~|8 AB|18 ~123| -> Stop(Instruction) I 400 A 10 B 20 |AB|~123|
-A 10 B 20|~B#00H~|8 AB|18 ~123| -> Stop(Instruction) I 400 A 10 B 20 |AB|~123|
-A 10 B 20|~B#00S~|8 AB|18 ~123| -> Stop(Address) I 400 A 10 B 20 |AB|~123|
-A 10 B 20|~V1000204~|8 AB|18 ~123| -> Stop(Instruction) I 400 A 10 B 20 |AB|~123|
-A 10 B 20|~A01002~|8 AB|18 ~123| -> Stop(Instruction) I 400 A 10 B 20 |AB|~123|
-A 10 B 20|~A010020~|8 ~0#5|18 ~123| -> Stop(Data) I 400 A 10 B 20 |~0#5|~123|
-A 10 B 20|~A020019~|8 AB|18 ~123| -> Stop(Overlap) I 400 A 10 B 20 |AB|~123|
-A 10 B 20|~#001020~|8 AB|18 ~123| -> Stop(Address) I 400 A 10 B 20 |AB|~123|
-A 10 B 20|~K3~|8 AB|18 ~123| -> Stop(Instruction) I 400 A 10 B 20 |AB|~123|
-A 10 B 20|~KD~|8 AB|18 ~123| -> Stop(Instruction) I 400 A 10 B 20 |AB|~123|
-A 10 B 20|~K~|8 AB|18 ~123| -> Stop(Instruction) I 400 A 10 B 20 |AB|~123|
-A 10 B 20|~K44~|8 AB|18 ~123| -> Stop(Instruction) I 400 A 10 B 20 |AB|~123|
-A 10 B 20|~K100~|8 AB|18 ~123| -> Stop(Instruction) I 400 A 10 B 20 |AB|~123|
-A 10 B 20|~K1004~|8 AB|18 ~123| -> Stop(Instruction) I 400 A 10 B 20 |AB|~123|
-A 10 B 20|~K100020~|8 AB|18 ~123| -> Stop(Instruction) I 400 A 10 B 20 |AB|~123|
-A 10 B 20|~K1000204~|8 AB|18 ~123| -> Stop(Instruction) I 400 A 10 B 20 |AB|~123|
+A 10 B 20|~B100H~|8 AB|18 ~123| -> Check(Instruction) I 400 A 10 B 20 |AB|~123|
+A 10 B 20|~B#00H~|8 AB|18 ~123| -> Check(Instruction) I 400 A 10 B 20 |AB|~123|
+A 10 B 20|~B#00S~|8 AB|18 ~123| -> Check(Address) I 400 A 10 B 20 |AB|~123|
+A 10 B 20|~V1000204~|8 AB|18 ~123| -> Check(Instruction) I 400 A 10 B 20 |AB|~123|
+A 10 B 20|~A01002~|8 AB|18 ~123| -> Check(Instruction) I 400 A 10 B 20 |AB|~123|
+A 10 B 20|~A010020~|8 ~0#5|18 ~123| -> Check(Data) I 400 A 10 B 20 |~0#5|~123|
+A 10 B 20|~A020019~|8 AB|18 ~123| -> Check(Overlap) I 400 A 10 B 20 |AB|~123|
+A 10 B 20|~#001020~|8 AB|18 ~123| -> Check(Address) I 400 A 10 B 20 |AB|~123|
+A 10 B 20|~K3~|8 AB|18 ~123| -> Check(Instruction) I 400 A 10 B 20 |AB|~123|
+A 10 B 20|~KD~|8 AB|18 ~123| -> Check(Instruction) I 400 A 10 B 20 |AB|~123|
+A 10 B 20|~K~|8 AB|18 ~123| -> Check(Instruction) I 400 A 10 B 20 |AB|~123|
+A 10 B 20|~K44~|8 AB|18 ~123| -> Check(Instruction) I 400 A 10 B 20 |AB|~123|
+A 10 B 20|~K100~|8 AB|18 ~123| -> Check(Instruction) I 400 A 10 B 20 |AB|~123|
+A 10 B 20|~K1004~|8 AB|18 ~123| -> Check(Instruction) I 400 A 10 B 20 |AB|~123|
+A 10 B 20|~K100020~|8 AB|18 ~123| -> Check(Instruction) I 400 A 10 B 20 |AB|~123|
+A 10 B 20|~K1000204~|8 AB|18 ~123| -> Check(Instruction) I 400 A 10 B 20 |AB|~123|
 ";
 
 #[test]
