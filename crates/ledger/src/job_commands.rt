@@ -56,7 +56,7 @@ fn take_and_save<S: Alter>(
     commands_act_on_pictures();
     commands_keep_jobs();
     runs_only_add();
-    match job.take(drive, meter)? {
+    match job.drive(drive, meter)? {
         Reply::Refused(reason) => Ok(Reply::Refused(reason)),
         reply => {
             save(tables, name, drive, earlier, job)?;

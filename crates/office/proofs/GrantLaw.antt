@@ -9,7 +9,7 @@ use Rattle.units.specs.declared.punch.Punched.{Punched}
 use Rattle.units.specs.declared.switches.Switches.{Switches}
 use Rattle.office.specs.declared.stretches.Stretch.{Stretch}
 use Rattle.office.specs.Whole.{RunsToHalt, RunsThrough, Whole}
-use Rattle.office.specs.Jobs.{Job, deck_begun, resumed, all_off, beginning, IsAtHalt, HaltsBetween, granted_more, one_more, sliced_job, started_job, HasRunWhole}
+use Rattle.office.specs.Jobs.{Job, deck_begun, resumed, beginning, IsAtHalt, HaltsBetween, granted_more, one_more, sliced_job, started_job, HasRunWhole}
 use Rattle.office.proofs.HaltLemmas.{Adds}
 
 -- ---- what is kept

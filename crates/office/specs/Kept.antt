@@ -226,12 +226,16 @@ limit_of other = 0
 
 -- ---- when memory may run out
 
--- a slice or a start makes something that takes memory: a card or a line, or a stretch
-abbrev pub MakesOn : Drive → Kept → Type 0
-MakesOn (drive.Slice limit) k = Makes k.machine.works.units (after k.machine limit).works.units
-MakesOn (drive.Start switches) k = Unit {0}
+-- a command on a job makes something that takes memory: a card or a line, a stretch, or copies of
+-- cards or lines for the reply
+abbrev pub MakesOn : JobCommand → Kept → Type 0
+MakesOn (Slice limit) k = Makes k.machine.works.units (after k.machine limit).works.units
+MakesOn (Start switches) k = Unit {0}
+MakesOn (Cards from) k = Unit {0}
+MakesOn Lines k = Unit {0}
+MakesOn other k = ⊥
 
 -- it may run out of memory: it is not refused, and makes something that takes memory
-pub record MayWant (d : Drive) (k : Kept) : Type 0 where
-  pub let_through : job_refusal (drive_command d) (summary_of k) ≡ None
-  pub makes : MakesOn d k
+pub record MayWant (c : JobCommand) (k : Kept) : Type 0 where
+  pub let_through : job_refusal c (summary_of k) ≡ None
+  pub makes : MakesOn c k

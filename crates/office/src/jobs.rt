@@ -3,12 +3,13 @@
 ghost use Rattle.std.specs.Prelude.{◌≡◌, ◌<◌, length, None, OnOk, OnErr, IfOk, IfSome, MatchOption};
 ghost use Rattle.machine.specs.Run.{risen};
 ghost use Rattle.office.specs.{
-  Kept.{IsJobInRange, loaded_kept, summary_of, job_refusal, changed, answered, take_kept, attempts_of, attempted_on, limit_of, drive_command, MakesOn, MayWant},
+  Kept.{IsJobInRange, loaded_kept, summary_of, job_refusal, changed, answered, take_kept, attempts_of, attempted_on, limit_of, drive_command, flag_command, MakesOn, MayWant},
   Meters.{RisenAtMost},
   declared.commands.JobCommand.{JobCommand},
 };
 
 use crate::drives::Drive;
+use crate::flags::FlagCommand;
 use crate::replies::Reply;
 use crate::stretches::{Stretch, Stretches};
 use crate::summaries::Summary;
@@ -162,7 +163,7 @@ impl<C: Core> Job<C> {
         ensures meter { OnOk result
             (meter.new ≡ risen meter.old (attempts_of (JobCommand.Slice limit) self.old)) }
         ensures unchanged { OnErr result (self.new ≡ self.old) }
-        ensures memory { OnErr result (MakesOn (Drive.Slice limit) self.old) }
+        ensures memory { OnErr result (MakesOn (JobCommand.Slice limit) self.old) }
         ensures given_up { OnErr result
             (RisenAtMost (attempts_of (JobCommand.Slice limit) self.old) meter.old meter.new) }
     {
@@ -195,7 +196,7 @@ impl<C: Core> Job<C> {
         ensures meter { OnOk result
             (meter.new ≡ risen meter.old (attempts_of (drive_command drive) self.old)) }
         ensures unchanged { OnErr result (self.new ≡ self.old) }
-        ensures memory { OnErr result (MakesOn drive self.old) }
+        ensures memory { OnErr result (MakesOn (drive_command drive) self.old) }
         ensures given_up { OnErr result
             (RisenAtMost (attempts_of (drive_command drive) self.old) meter.old meter.new) }
     {
@@ -208,14 +209,14 @@ impl<C: Core> Job<C> {
     /// Carries out a slice or a start, unless it is refused; a refusal changes nothing. If there is
     /// no memory, the job is as before, but the instructions done until then have ticked. Only a
     /// slice ticks.
-    pub fn take(&mut self, drive: Drive, meter: &mut Meter) -> Result<Reply, AllocError>
+    pub fn drive(&mut self, drive: Drive, meter: &mut Meter) -> Result<Reply, AllocError>
         ensures reply { IfOk result (λ reply.
             reply ≡ (take_kept (drive_command drive) self.old).1) }
         ensures job { OnOk result (self.new ≡ (take_kept (drive_command drive) self.old).0) }
         ensures meter { OnOk result
             (meter.new ≡ risen meter.old (attempted_on (drive_command drive) self.old)) }
         ensures unchanged { OnErr result (self.new ≡ self.old) }
-        ensures memory { OnErr result (MayWant drive self.old) }
+        ensures memory { OnErr result (MayWant (drive_command drive) self.old) }
         ensures given_up { OnErr result
             (RisenAtMost (attempted_on (drive_command drive) self.old) meter.old meter.new) }
         ensures most { RisenAtMost (limit_of (drive_command drive)) meter.old meter.new }
@@ -223,6 +224,29 @@ impl<C: Core> Job<C> {
         match drive.command().refusal(&self.summary()) {
             Some(reason) => Ok(Reply::Refused(reason)),
             None => self.carry_out(drive, meter),
+        }
+    }
+
+    /// Carries out a command that needs the summary only and is not refused.
+    fn set_flags(&mut self, command: FlagCommand) -> Reply
+        ensures reply { result ≡ answered (flag_command command) self.old }
+        ensures job { self.new ≡ changed (flag_command command) self.old }
+    {
+        let flags = command.on_flags(&self.summary());
+        self.held = flags.held;
+        self.collected = flags.collected;
+        flags.reply
+    }
+
+    /// Carries out a command that needs the summary only, unless it is refused; a refusal changes
+    /// nothing.
+    pub(crate) fn flag(&mut self, command: FlagCommand) -> Reply
+        ensures reply { result ≡ (take_kept (flag_command command) self.old).1 }
+        ensures job { self.new ≡ (take_kept (flag_command command) self.old).0 }
+    {
+        match command.command().refusal(&self.summary()) {
+            Some(reason) => Reply::Refused(reason),
+            None => self.set_flags(command),
         }
     }
 }

@@ -1,10 +1,11 @@
 //! The office: jobs, the commands on them, and the replies.
 //!
 //! Nothing here depends on how jobs are kept. A job is its stretches, its flags and its machine;
-//! [`new_job`] makes one from what a customer hands in, and [`Job::take`] carries out a slice or a
-//! start on it. [`FlagCommand::on_flags`] is what a command sets and replies that needs the summary
-//! alone. [`Job::parts`] returns the whole state of a job between two calls, and
-//! [`Job::from_parts`] makes the job again from it.
+//! [`new_job`] makes one from what a customer hands in, and [`take`] carries out any command on it.
+//! A store that keeps a job in parts uses the steps of [`take`]: [`Job::drive`] carries out a slice
+//! or a start on a job's machine, [`FlagCommand::on_flags`] sets flags and replies by a job's
+//! summary, and [`cards_from`] selects cards. [`Job::parts`] returns the whole state of a job
+//! between two calls, and [`Job::from_parts`] makes the job again from it.
 //!
 //! `specs/Office.antt` defines the effect of commands on the jobs of all customers. The contract
 //! for the layer above: a new job and the reply to a command are those of the definitions there,
@@ -32,6 +33,7 @@ mod replies;
 mod stackers;
 mod stretches;
 mod summaries;
+mod taking;
 
 pub use beginnings::programs_run_from_their_start;
 pub use commands::{Command, Contents, JobCommand, Kind};
@@ -52,3 +54,4 @@ pub use replies::Reply;
 pub use stackers::{Stacker, cards_from};
 pub use stretches::{Stretch, are_stretches, granted_in};
 pub use summaries::Summary;
+pub use taking::take;

@@ -22,7 +22,7 @@ returns-in_ok-save-in_default-clause-done g c old alone clean inside office is s
     let made = c.in_ok-reply.ensures.job ∙ ap (λ (k : Kept). (take_kept command k).0) alone in
     let it = job_is c.args.name.customer.now c.args.name.number office old s.jobs is in
     let earlier : IsEarlier c.args.earlier.now (picture old) = record { storage = c.requires.storage ∙ ap (λ (k : Kept). k.machine.works.storage) alone; chosen = c.requires.chosen ∙ ap (λ (k : Kept). k.machine.works.units.punch.chosen) alone } in
-    let after = is_after old c.commands_act_on_pictures.ensures c.commands_keep_jobs.ensures.kept c.args.name c.args.drive c.take.new.self office is it.job made none in
+    let after = is_after old c.commands_act_on_pictures.ensures c.commands_keep_jobs.ensures.kept c.args.name c.args.drive c.drive.new.self office is it.job made none in
     command_done (seen g.S.Store c.save.new.tables) c.args.name.customer.now c.args.name.number command c.in_ok-reply.reply office old is told none (c.in_ok-save-in_default.ensures.saved old clean inside office s (record { after = after; earlier_is = earlier }))
 
 pub save-requires : goal.save-requires

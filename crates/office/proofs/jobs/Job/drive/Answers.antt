@@ -1,6 +1,6 @@
 use Rattle.office.specs.Kept.{drive_command}
 use Rattle.office.proofs.JobMeters.{at_most}
-use Rattle.office.proofs.jobs.Job.take.Goals as goal
+use Rattle.office.proofs.jobs.Job.drive.Goals as goal
 
 pub returns-in-None-clause-most : goal.returns-in-None-clause-most
 returns-in-None-clause-most g c =
