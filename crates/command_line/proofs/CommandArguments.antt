@@ -142,7 +142,7 @@ none_is_none : {X : Type 0} {x : X} → None ≡ Some x → ⊥
 none_is_none e = cc
 
 -- no arguments are those of no subcommand
-pub none_found : (subcommand : Subcommand) (found : List Row) → HasSubcommand bureau [] subcommand found → ⊥
+none_found : (subcommand : Subcommand) (found : List Row) → HasSubcommand bureau [] subcommand found → ⊥
 none_found subcommand found is = none_is_none (sym no_arguments ∙ is.is_subcommand)
 
 spelt_by : (arguments : List Text) (subcommand : Subcommand) (found : List Row) → AreSpelt arguments → HasSubcommand bureau arguments subcommand found

@@ -5,6 +5,7 @@ pub mod SubcommandLemmas
 pub mod CommandSubcommands
 pub mod CommandArguments
 pub mod AskedWays
+pub mod SpellingRows
 pub mod MistakeLines
 pub mod MisuseSteps
 pub mod TaskArguments

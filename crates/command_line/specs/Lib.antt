@@ -6,6 +6,7 @@ pub mod Arguments
 pub mod Programs
 pub mod Subcommands
 pub mod Asked
+pub mod Words
 pub mod Versions
 pub mod Printed
 pub mod Mistakes

@@ -13,6 +13,9 @@
 //! subcommand: the values after it are taken unchanged. The values (a size, the switches) are read
 //! after that, before any file is opened.
 //!
+//! The program takes the rows of words of `specs/Words.antt`, and [`words`] returns the row that the
+//! arguments spell, or else what is wrong with them.
+//!
 //! The contracts for the layers above: [`task_of`] returns the task that the arguments ask for, or
 //! else what is wrong with them (`specs/Tasks.antt`); [`arguments_are_those_of_the_table`] says which
 //! arguments the table takes; and what is printed, for a fault, for a mistake or as help, is exactly
@@ -35,6 +38,8 @@ mod plain;
 mod ports;
 mod programs;
 mod script_forms;
+mod spelled;
+mod spelling;
 mod statuses;
 mod subcommands;
 mod tables;
@@ -52,6 +57,8 @@ pub use misuses::Misuse;
 pub use near::is_near;
 pub use programs::{Asked, Program, Syntax, asked_by};
 pub use script_forms::{tell_command_form, tell_commands};
+pub use spelled::{Words, WordsFault};
+pub use spelling::words;
 pub use statuses::{Status, exit_code};
 pub use subcommands::Subcommand;
 pub use tables::Kind;

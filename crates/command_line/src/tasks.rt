@@ -1,13 +1,12 @@
 //! What the program's arguments ask for, with their values read.
 
-ghost use Rattle.std.specs.Prelude.{◌≡◌, ◌↔◌, ◌⊎◌, ◌∷◌, [], true, false, Option, IfOk, IfErr, Ok, unwrap_or};
+ghost use Rattle.std.specs.Prelude.{◌≡◌, ◌↔◌, ◌∷◌, [], Option, IfOk, IfErr, Ok, unwrap_or};
 ghost use Rattle.clap.specs.Words.{first_of};
 ghost use Rattle.command_line.specs.{
   Arguments.{given},
   Asked.{IsHelp, values_found},
   Plain.{texts},
-  Programs.{AsksFor, AsksInPlace, IsMisread, IsVersion, Wish, is_clear, wish_as},
-  Subcommands.{bureau},
+  Programs.{IsVersion},
   Tasks.{IsMistake, IsSubcommandMistake, IsServeMistake, IsValueMistake, Wants, WantsSubcommand},
   declared.mistakes.Mistake.TheVariants.{Memory},
   declared.subcommands.Subcommand.{Subcommand},
@@ -16,10 +15,10 @@ ghost use Rattle.command_line.specs.{
 
 use crate::arguments::Found;
 use crate::mistakes::Mistake;
-use crate::plain::is_clear;
 use crate::ports::{count_of, port_of};
-use crate::programs::{Asked, asked_by, mistake_in};
-use crate::subcommands::{BUREAU, Subcommand};
+use crate::spelled::Words;
+use crate::spelling::words;
+use crate::subcommands::Subcommand;
 use core_store::Size;
 use std::alloc::Global;
 use texts::{number_or_zero, size_of, switches_of};
@@ -190,41 +189,6 @@ fn subcommand_task<'a>(subcommand: Subcommand, found: &Found<'a>) -> Result<Task
     }
 }
 
-/// The task of a subcommand by arguments that have it, unless one of them is an option.
-fn clear_task<'a>(
-    arguments: &'a [String],
-    subcommand: Subcommand,
-    found: &Found<'a>,
-) -> Result<Task<'a>, Mistake<'a>>
-    ensures ok { IfOk result (λ task. (is_clear bureau (texts arguments.now) ≡ true)
-        × WantsSubcommand subcommand (values_found (given found.now) subcommand) task) }
-    ensures mistake { IfErr result (λ mistake.
-        ((is_clear bureau (texts arguments.now) ≡ false)
-        × IsMisread bureau (texts arguments.now) mistake)
-        ⊎ ((is_clear bureau (texts arguments.now) ≡ true)
-        × IsSubcommandMistake subcommand (values_found (given found.now) subcommand) mistake)) }
-{
-    if !is_clear(&BUREAU, arguments) {
-        return Err(mistake_in(&BUREAU, arguments));
-    }
-    subcommand_task(subcommand, found)
-}
-
-/// What arguments ask for by the table.
-fn wish_of<'a>(alloc: Global, arguments: &'a [String]) -> Result<Asked<'a, Subcommand>, Mistake<'a>>
-    ensures ok { IfOk result (λ asked. AsksFor bureau (texts arguments.entry.now) (wish_as asked)) }
-    ensures err { IfErr result (λ mistake. (wish : Wish Subcommand) →
-        AsksFor bureau (texts arguments.entry.now) wish → mistake ≡ Memory) }
-    ensures in_place { IfOk result (λ asked. (wish : Wish Subcommand) →
-        AsksInPlace bureau (texts arguments.entry.now) wish → wish_as asked ≡ wish) }
-    ensures never { IfErr result (λ _. (wish : Wish Subcommand) →
-        ¬ AsksInPlace bureau (texts arguments.entry.now) wish) }
-    ensures mistake { IfErr result (λ mistake. (mistake ≡ Memory)
-        ⊎ IsMisread bureau (texts arguments.entry.now) mistake) }
-{
-    asked_by(alloc, &BUREAU, arguments)
-}
-
 /// Returns the task that the arguments ask for, or else what is wrong with them.
 #[tactic(auto, unfolding(texts::specs::Switches::letters_of))]
 pub fn task_of<'a>(alloc: Global, arguments: &'a [String]) -> Result<Task<'a>, Mistake<'a>>
@@ -236,17 +200,15 @@ pub fn task_of<'a>(alloc: Global, arguments: &'a [String]) -> Result<Task<'a>, M
     ensures version { (result ≡ Ok Task.Version) ↔ IsVersion (texts arguments.entry.now) }
     ensures mistake { IfErr result (IsMistake (texts arguments.entry.now)) }
 {
-    if arguments.is_empty() {
-        return Ok(Task::Run {
+    match words(alloc, arguments) {
+        Ok(Words::Standard) => Ok(Task::Run {
             deck: Input::Standard,
             size: Size::Positions4000,
             switches: Switches::A,
-        });
-    }
-    match wish_of(alloc, arguments) {
-        Ok(Asked::Help(subcommand)) => Ok(Task::Help(subcommand)),
-        Ok(Asked::Version) => Ok(Task::Version),
-        Ok(Asked::Subcommand(subcommand, found)) => clear_task(arguments, subcommand, &found),
-        Err(mistake) => Err(mistake),
+        }),
+        Ok(Words::Help(subcommand)) => Ok(Task::Help(subcommand)),
+        Ok(Words::Version) => Ok(Task::Version),
+        Ok(Words::Subcommand(subcommand, found)) => subcommand_task(subcommand, &found),
+        Err(fault) => Err(fault),
     }
 }
