@@ -8,7 +8,7 @@ ghost use Rattle.bureau.specs.Work.{HasEndedFrom, HasNotApplied, TellsApply, out
 
 use crate::ended::Ended;
 use crate::outcomes::Outcome;
-use exchanges::{ScriptEnd, Scripted, script};
+use counter::{ScriptEnd, Scripted, script};
 use ledger::{Bureau, Fault, kept_offices_run_whole};
 use ledger_files::{Work, with_bureau};
 use machine::Meter;
