@@ -1,6 +1,6 @@
 //! Tests of the counter that no file shows: requests, scripts, runs and assemblies whose readers
-//! and writers give and take little, or fail; a bureau whose store failed; two connections; and
-//! each command on a job.
+//! and writers give and take little, or fail; a bureau whose store failed; two connections; each
+//! row of words; and each command on a job.
 //!
 //! Further tests show bodies, answers and lines that a program gives only if memory or the store
 //! fails, and punches that are not a character. Requests, scripts, runs and their answers are in
@@ -41,3 +41,5 @@ mod served;
 mod submissions;
 #[cfg(test)]
 mod told;
+#[cfg(test)]
+mod word_rows;
