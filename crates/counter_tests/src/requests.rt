@@ -1,7 +1,7 @@
 //! Requests whose reader fails, or whose writer gives and takes little, or fails.
 
 use crate::doors::{Call, request_of, told_by};
-use std::alloc::Global;
+use crate::submissions::ENDLESS;
 use std::test::Fail;
 
 /// A request, and its answer from a bureau without jobs.
@@ -14,19 +14,11 @@ const NO_JOB: &str = "HTTP/1.1 404 Not Found\r\n\
     \r\n\
     {\"refusal\":20}";
 
-/// A submission of a job without an end, before these bytes.
-fn submission_with(alloc: Global, more: &str) -> Result<String, Fail> {
-    Ok(format!(in alloc;
-        "PUT /c/ACME/j/9/object/4000/A HTTP/1.1\r\nContent-Length: 81\r\n\r\n{:80}\n{more}",
-        ",008012B008"
-    )?)
-}
-
 /// Each request is read to its end, and nothing is carried out if the reader fails before.
 #[test]
 fn nothing_is_carried_out_before_a_request_is_whole(rt: HostRuntime) -> Result<(), Fail> {
     let alloc = rt.alloc();
-    let submission = submission_with(alloc, "")?;
+    let submission = ENDLESS.request(alloc, "")?;
     let wanted = format!(in alloc;
         "ReadFailed: , 0 left\n\
         Answered {{ status: 404, sent: 111 }}: {NO_JOB}, 0 left\n0 ticks, broken false"
@@ -76,7 +68,7 @@ fn what_went_out_is_counted(rt: HostRuntime) -> Result<(), Fail> {
 #[test]
 fn what_comes_after_a_request_is_left(rt: HostRuntime) -> Result<(), Fail> {
     let alloc = rt.alloc();
-    let submission = submission_with(alloc, "MORE")?;
+    let submission = ENDLESS.request(alloc, "MORE")?;
     for (request, left) in [
         (b"GET /queue HTTP/1.1\r\n\r\nGET".as_slice(), "3 left"),
         (

@@ -1,38 +1,45 @@
 //! Runs of decks from a reader or to a writer that fails.
 
 use crate::decks::{TWO_LINES, text_of};
-use crate::devices::{Full, Torn};
-use command_line::Status;
+use crate::devices::{Dripping, Full, is_device_fault};
 use core_store::Size;
-use local_runs::run_deck;
+use counter::{Status, run_deck};
 use std::alloc::Global;
+use std::io;
+use std::io::{Read, Write};
 use std::test::Fail;
 use units::Switches;
 
+/// Runs a deck on a machine of 4,000 positions, with switch A on.
+fn run<R: Read + Drop, W: Write, E: Write>(
+    alloc: Global,
+    reader: R,
+    output: &mut W,
+    errors: &mut E,
+) -> io::Result<Status> {
+    let (size, switches) = (Size::Positions4000, Switches::A);
+    run_deck(alloc, reader, output, errors, size, switches)
+}
+
 /// Whether a run whose output takes only `room` bytes writes that a device failed.
 fn output_fails(alloc: Global, text: &[u8], room: usize) -> Result<bool, Fail> {
-    let (size, switches) = (Size::Positions4000, Switches::A);
-    let mut told = Vec::new(alloc);
-    let status = run_deck(alloc, text, &mut Full { room }, &mut told, size, switches)?;
-    let is_told = told.as_slice() == b"fault device\n".as_slice();
-    Ok(status == Status::NotDone && is_told)
+    let mut errors = Vec::new(alloc);
+    let status = run(alloc, text, &mut Full { room }, &mut errors)?;
+    Ok(is_device_fault(status, &errors))
 }
 
 /// Whether a run from a reader that fails writes that a device failed, and nothing else.
 fn reader_fails(alloc: Global) -> Result<bool, Fail> {
-    let (size, switches) = (Size::Positions4000, Switches::A);
-    let mut out = Vec::new(alloc);
-    let mut told = Vec::new(alloc);
-    let status = run_deck(alloc, Torn::unread(), &mut out, &mut told, size, switches)?;
-    let is_told = told.as_slice() == b"fault device\n".as_slice();
-    Ok(status == Status::NotDone && out.is_empty() && is_told)
+    let mut output = Vec::new(alloc);
+    let mut errors = Vec::new(alloc);
+    let status = run(alloc, Dripping::torn(), &mut output, &mut errors)?;
+    Ok(output.is_empty() && is_device_fault(status, &errors))
 }
 
 /// Whether a run whose second writer takes only `room` bytes fails.
 fn errors_fail(alloc: Global, text: &[u8], room: usize) -> bool {
-    let (size, switches) = (Size::Positions4000, Switches::A);
-    let mut out = Vec::new(alloc);
-    run_deck(alloc, text, &mut out, &mut Full { room }, size, switches).is_err()
+    let mut output = Vec::new(alloc);
+    run(alloc, text, &mut output, &mut Full { room }).is_err()
 }
 
 #[test]

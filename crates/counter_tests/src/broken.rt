@@ -2,7 +2,7 @@
 //! meets the failure is answered by fault 2, and so is all after it. And what the meter counts.
 
 use crate::doors::{request_of, script_of, told_by};
-use std::alloc::Global;
+use crate::submissions::{ENDLESS, OneCard, PRINTING};
 use std::test::Fail;
 
 /// The table of printed lines is lost.
@@ -16,22 +16,17 @@ const FAULT_2: &str = "Answered { status: 503, sent: 118 }: HTTP/1.1 503 Service
     \r\n\
     {\"fault\":2}, 0 left\n";
 
-/// A job that prints a line and punches a card: its machine, and its card.
-const PRINTING: [&str; 2] = ["1400 -", ",008015,022029,030031,03203624.B029"];
-
-/// A script that submits a job, before these lines.
-fn script_with(alloc: Global, [machine, card]: [&str; 2], lines: &str) -> Result<String, Fail> {
-    Ok(format!(in alloc; "submit ACME 9 object {machine} 1\n{card:80}\n{lines}")?)
-}
+/// A job that sets marks by two instructions and then punches without an end.
+const FILLING: OneCard = OneCard {
+    size: 1400,
+    switches: "-",
+    card: ",008015,0150194015",
+};
 
 #[test]
 fn a_script_that_meets_a_failure_ends_with_fault_2(rt: HostRuntime) -> Result<(), Fail> {
     let alloc = rt.alloc();
-    let script = script_with(
-        alloc,
-        PRINTING,
-        "slice ACME 9 1\nslice ACME 9 2000\nqueue\n",
-    )?;
+    let script = PRINTING.script(alloc, "slice ACME 9 1\nslice ACME 9 2000\nqueue\n")?;
     let calls = [
         script_of(script.as_str().as_bytes()),
         script_of(b"queue\n"),
@@ -52,7 +47,7 @@ fn a_script_that_meets_a_failure_ends_with_fault_2(rt: HostRuntime) -> Result<()
 #[test]
 fn a_request_that_meets_a_failure_is_answered_503(rt: HostRuntime) -> Result<(), Fail> {
     let alloc = rt.alloc();
-    let submission = script_with(alloc, PRINTING, "")?;
+    let submission = PRINTING.script(alloc, "")?;
     let calls = [
         script_of(submission.as_str().as_bytes()),
         request_of(b"POST /c/ACME/j/9/slice/2000 HTTP/1.1\r\n\r\n"),
@@ -75,7 +70,7 @@ fn a_request_that_meets_a_failure_is_answered_503(rt: HostRuntime) -> Result<(),
 #[test]
 fn slices_of_scripts_and_of_requests_are_counted(rt: HostRuntime) -> Result<(), Fail> {
     let alloc = rt.alloc();
-    let script = script_with(alloc, ["4000 A", ",008012B008"], "slice ACME 9 34\n")?;
+    let script = ENDLESS.script(alloc, "slice ACME 9 34\n")?;
     let calls = [
         script_of(script.as_str().as_bytes()),
         request_of(b"POST /c/ACME/j/9/slice/2000 HTTP/1.1\r\n\r\n"),
@@ -85,13 +80,12 @@ fn slices_of_scripts_and_of_requests_are_counted(rt: HostRuntime) -> Result<(), 
     Ok(())
 }
 
-/// A job that sets marks by two instructions and then punches until the punch is full. The
-/// attempt that meets the full punch is one tick, and the slice that is refused is none.
+/// The attempt that meets the full punch is one tick, and the slice that is refused is none.
 #[test]
 fn the_attempt_at_a_full_punch_is_counted(rt: HostRuntime) -> Result<(), Fail> {
     let alloc = rt.alloc();
     let slices = "slice ACME 9 2000\n".repeat(alloc, 7)?;
-    let script = script_with(alloc, ["1400 -", ",008015,0150194015"], slices.as_str())?;
+    let script = FILLING.script(alloc, slices.as_str())?;
     assert_eq!(rt;
         told_by(alloc, "", &[script_of(script.as_str().as_bytes())])?,
         format!(in alloc;

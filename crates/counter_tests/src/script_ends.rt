@@ -1,19 +1,20 @@
 //! Scripts whose reader or writer gives and takes little, or fails.
 
 use crate::doors::{Call, script_of, told_by};
-use std::alloc::Global;
+use crate::submissions::OneCard;
 use std::test::Fail;
 
-/// A script of a job that is submitted, run, held and asked for.
-fn held(alloc: Global) -> Result<String, Fail> {
-    Ok(format!(in alloc;
-        "submit ACME 9 object 4000 A 1\n{:80}\nslice ACME 9 34\nhold ACME 9\nhold ACME 9\n\
-        standing ACME 9\n",
-        ",008015L000200"
-    )?)
-}
+/// A job that comes to a check with its second instruction.
+const CHECKED: OneCard = OneCard {
+    size: 4000,
+    switches: "A",
+    card: ",008015L000200",
+};
 
-/// Its output: a line for each command, the last one of the most pieces.
+/// The commands after its submission: it is run, held and asked for.
+const COMMANDS: &str = "slice ACME 9 34\nhold ACME 9\nhold ACME 9\nstanding ACME 9\n";
+
+/// The output: a line for each command, the last one of the most pieces.
 const OUTPUT: [&str; 5] = [
     "taken 1\n",
     "ran 1 check ADDRESS at 8\n",
@@ -31,7 +32,7 @@ const NO_JOBS: &str = "Scripted { acknowledged: 2, sent: 11, refused: false, end
 #[test]
 fn nothing_is_applied_where_the_reader_fails(rt: HostRuntime) -> Result<(), Fail> {
     let alloc = rt.alloc();
-    let script = held(alloc)?;
+    let script = CHECKED.script(alloc, COMMANDS)?;
     let wanted = format!(in alloc;
         "Scripted {{ acknowledged: 0, sent: 0, refused: false, ended: ReadFailed }}: , 0 left\n\
         {NO_JOBS}"
@@ -52,7 +53,7 @@ fn nothing_is_applied_where_the_reader_fails(rt: HostRuntime) -> Result<(), Fail
 #[test]
 fn nothing_is_applied_where_the_script_ends_too_early(rt: HostRuntime) -> Result<(), Fail> {
     let alloc = rt.alloc();
-    let script = held(alloc)?;
+    let script = CHECKED.script(alloc, COMMANDS)?;
     for count in 1..111 {
         let line = if count < 30 { 1 } else { 2 };
         let bytes = script.as_str().as_bytes().get(..count).ok_or("bytes")?;
@@ -84,7 +85,7 @@ fn acknowledged(room: usize) -> usize {
 #[test]
 fn what_went_out_is_counted(rt: HostRuntime) -> Result<(), Fail> {
     let alloc = rt.alloc();
-    let script = held(alloc)?;
+    let script = CHECKED.script(alloc, COMMANDS)?;
     let mut output = String::new(alloc);
     for line in OUTPUT {
         output.push_str(line)?;

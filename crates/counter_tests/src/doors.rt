@@ -3,8 +3,7 @@
 //! `told_by` alone names a store: the proof of a function over any store is shorter.
 
 use crate::devices::{Dripping, Narrow};
-use exchanges::{exchange, script};
-use http_messages::Routes;
+use counter::{Routes, exchange, script};
 use ledger::Bureau;
 use machine::Meter;
 use sqlite::{Alter, Connection};

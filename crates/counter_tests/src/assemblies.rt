@@ -1,16 +1,14 @@
 //! Assemblies of sources from a reader or to a writer that fails.
 
 use crate::decks::{TWO_LINES_SOURCE, text_of};
-use crate::devices::{Full, Torn};
-use command_line::Status;
-use local_runs::{Assembled, assemble_deck};
+use crate::devices::{Dripping, Full, is_device_fault};
+use counter::{Assembled, assemble_deck};
 use std::alloc::Global;
 use std::test::Fail;
 
 /// Whether an assembly wrote that a device failed, and returns no deck.
 fn is_told(answer: Assembled, errors: &[u8]) -> bool {
-    let is_none = answer.out.is_none();
-    answer.status == Status::NotDone && is_none && errors == b"fault device\n".as_slice()
+    answer.out.is_none() && is_device_fault(answer.status, errors)
 }
 
 /// The same of an assembly whose output takes only `room` bytes.
@@ -24,7 +22,7 @@ fn output_fails(alloc: Global, text: &[u8], room: usize) -> Result<bool, Fail> {
 fn reader_fails(alloc: Global) -> Result<bool, Fail> {
     let mut output = Vec::new(alloc);
     let mut errors = Vec::new(alloc);
-    let answer = assemble_deck(alloc, Torn::unread(), &mut output, &mut errors)?;
+    let answer = assemble_deck(alloc, Dripping::torn(), &mut output, &mut errors)?;
     Ok(output.is_empty() && is_told(answer, &errors))
 }
 

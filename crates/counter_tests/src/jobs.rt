@@ -1,28 +1,27 @@
-//! A job that is made from its parts, over the storage that the bureau's jobs have.
+//! A job that was submitted, or that is made from its parts, over the storage that the bureau's
+//! jobs have.
 
 use crate::decks::text_of;
+use crate::submissions::PUNCHING;
 use bitflags::Flags;
 use cards::{Deck, read_text};
 use core_store::{Core, PlaneCore, Size};
 use machine::{Meter, Parts, StandingAt};
-use office::{Contents, Drive, Job, JobParts, Kind, Reply, Stretch, new_job};
+use office::{Contents, Job, JobCommand, JobParts, Kind, Reply, Stretch, new_job, take};
 use std::alloc::Global;
 use std::test::Fail;
 use units::{Hopper, Printer, Punch, Switches, Units};
 
-/// A card that loads itself, punches three cards and halts with its eighth instruction.
-const THREE_CARDS: &str = ",008015,022029,030031,032033444.";
-
-/// A deck of that card.
+/// The deck of the job.
 fn deck(alloc: Global) -> Result<Deck, Fail> {
-    Ok(read_text(alloc, &text_of(alloc, THREE_CARDS)?)?)
+    Ok(read_text(alloc, &text_of(alloc, PUNCHING.card)?)?)
 }
 
-/// The job of that deck, just submitted.
-fn submitted(alloc: Global) -> Result<Job<PlaneCore>, Fail> {
+/// Returns the job that punches three cards, as it was submitted.
+pub(crate) fn submitted(alloc: Global) -> Result<Job<PlaneCore>, Fail> {
     let contents = Contents {
         kind: Kind::Object,
-        size: 1400,
+        size: PUNCHING.size,
         switches: Switches::from_bits_retain(0),
         deck: deck(alloc)?,
     };
@@ -87,11 +86,17 @@ fn granted_parts(
     })
 }
 
+/// Returns the job as it was submitted, with this number of instructions granted.
+pub(crate) fn granted(alloc: Global, count: u32) -> Result<Job<PlaneCore>, Fail> {
+    let parts = granted_parts(alloc, &submitted(alloc)?, count)?;
+    Ok(Job::from_parts(alloc, parts)?.ok_or("parts of a job")?)
+}
+
 /// Runs a job for one instruction. Returns how many it executed, whether it goes on, and how often
 /// the meter ticked.
-fn slice_of_one(job: &mut Job<PlaneCore>) -> Result<(u32, bool, u64), Fail> {
+fn slice_of_one(alloc: Global, job: &mut Job<PlaneCore>) -> Result<(u32, bool, u64), Fail> {
     let mut meter = Meter::new();
-    match job.take(Drive::Slice { limit: 1 }, &mut meter)? {
+    match take(alloc, job, &JobCommand::Slice { limit: 1 }, &mut meter)? {
         Reply::Ran { executed, standing } => {
             Ok((executed, standing == StandingAt::Running, meter.ticks()))
         }
@@ -101,9 +106,8 @@ fn slice_of_one(job: &mut Job<PlaneCore>) -> Result<(u32, bool, u64), Fail> {
 
 #[test]
 fn what_was_granted_is_not_run_again(rt: HostRuntime) -> Result<(), Fail> {
-    let parts = granted_parts(rt.alloc(), &submitted(rt.alloc())?, 8)?;
-    let mut job = Job::from_parts(rt.alloc(), parts)?.ok_or("parts of a job")?;
-    assert_eq!(rt; slice_of_one(&mut job)?, (1, true, 1));
+    let mut job = granted(rt.alloc(), 8)?;
+    assert_eq!(rt; slice_of_one(rt.alloc(), &mut job)?, (1, true, 1));
     assert_eq!(rt; job.summary().granted, 9);
     assert_eq!(rt; job.summary().cards, 0);
     Ok(())
@@ -113,9 +117,9 @@ fn what_was_granted_is_not_run_again(rt: HostRuntime) -> Result<(), Fail> {
 fn eight_instructions_halt(rt: HostRuntime) -> Result<(), Fail> {
     let mut job = submitted(rt.alloc())?;
     for _ in 0..7 {
-        assert_eq!(rt; slice_of_one(&mut job)?, (1, true, 1));
+        assert_eq!(rt; slice_of_one(rt.alloc(), &mut job)?, (1, true, 1));
     }
-    assert_eq!(rt; slice_of_one(&mut job)?, (1, false, 1));
+    assert_eq!(rt; slice_of_one(rt.alloc(), &mut job)?, (1, false, 1));
     assert_eq!(rt; job.summary().cards, 3);
     Ok(())
 }

@@ -1,5 +1,6 @@
 //! Readers and writers that give and take little, or fail.
 
+use counter::Status;
 use std::io;
 use std::io::{ErrorKind, Read, Write};
 
@@ -8,6 +9,16 @@ use std::io::{ErrorKind, Read, Write};
 pub(crate) struct Dripping<'a> {
     pub(crate) rest: &'a [u8],
     pub(crate) fails: bool,
+}
+
+impl Dripping<'_> {
+    /// Returns a reader that gives one byte, and then fails.
+    pub(crate) fn torn() -> Dripping<'static> {
+        Dripping {
+            rest: b",",
+            fails: true,
+        }
+    }
 }
 
 impl Read for Dripping<'_> {
@@ -54,4 +65,28 @@ impl Write for Narrow {
     fn flush(&mut self) -> io::Result<()> {
         Ok(())
     }
+}
+
+/// A writer that takes some bytes, and then none, and fails if it is flushed.
+#[derive(Drop)]
+pub(crate) struct Full {
+    /// The number of bytes that it still takes.
+    pub(crate) room: usize,
+}
+
+impl Write for Full {
+    fn write(&mut self, buf: &[u8]) -> io::Result<usize> {
+        let taken = buf.len().min(self.room);
+        self.room -= taken;
+        Ok(taken)
+    }
+
+    fn flush(&mut self) -> io::Result<()> {
+        Err(io::Error::from(ErrorKind::StorageFull))
+    }
+}
+
+/// Whether a call ends with status 1 and wrote only that a device failed.
+pub(crate) fn is_device_fault(status: Status, errors: &[u8]) -> bool {
+    status == Status::NotDone && errors == b"fault device\n".as_slice()
 }
