@@ -2,8 +2,9 @@
 
 use crate::jobs::{granted, submitted};
 use cards::write_punched_cards;
+use core_store::PlaneCore;
 use machine::Meter;
-use office::{JobCommand, Reply, Stacker, take};
+use office::{Job, JobCommand, Reply, Stacker, take};
 use scripts::write_reply;
 use std::alloc::Global;
 use std::test::Fail;
@@ -92,29 +93,42 @@ fn reply_text(alloc: Global, reply: &Reply) -> Result<String, Fail> {
     Ok(String::from_utf8(bytes).ok().ok_or("a text")?)
 }
 
+/// Carries out commands on a job. Fails at the first whose reply is not the one in its row.
+fn check_replies(
+    alloc: Global,
+    job: &mut Job<PlaneCore>,
+    meter: &mut Meter,
+    rows: &[(JobCommand, &str)],
+) -> Result<(), Fail> {
+    for (command, wanted) in rows {
+        let reply = take(alloc, job, command, meter)?;
+        let told = reply_text(alloc, &reply)?;
+        if told.as_str() != *wanted {
+            return Err(Fail::new(format_args!("{told} in place of {wanted}")));
+        }
+    }
+    Ok(())
+}
+
+/// Checks the cards and lines of the job that has punched three cards.
+fn check_made(alloc: Global, job: &mut Job<PlaneCore>, meter: &mut Meter) -> Result<(), Fail> {
+    let blank = "0".repeat(alloc, 240)?;
+    let punched = format!(in alloc; "{blank}\n{blank}\n{blank}\n")?;
+    let cards = JobCommand::Cards { from: Stacker::All };
+    check_replies(alloc, job, meter, &[(cards, punched.as_str())])?;
+    check_replies(alloc, job, meter, &[(JobCommand::Lines, "")])
+}
+
 #[test]
 fn each_command_has_its_reply(rt: HostRuntime) -> Result<(), Fail> {
     let alloc = rt.alloc();
     let (mut job, mut meter) = (submitted(alloc)?, Meter::new());
-    let blank = "0".repeat(alloc, 240)?;
-    let punched = format!(in alloc; "{blank}\n{blank}\n{blank}\n")?;
-    let made = [
-        (JobCommand::Cards { from: Stacker::All }, punched.as_str()),
-        (JobCommand::Lines, ""),
-    ];
-    for rows in [
-        SUBMITTED.as_slice(),
-        &HALTED,
-        &made,
-        &CHECKED,
-        &COLLECTED,
-        &made,
-    ] {
-        for (command, wanted) in rows {
-            let reply = take(alloc, &mut job, command, &mut meter)?;
-            assert_eq!(rt; reply_text(alloc, &reply)?.as_str(), *wanted);
-        }
-    }
+    check_replies(alloc, &mut job, &mut meter, &SUBMITTED)?;
+    check_replies(alloc, &mut job, &mut meter, &HALTED)?;
+    check_made(alloc, &mut job, &mut meter)?;
+    check_replies(alloc, &mut job, &mut meter, &CHECKED)?;
+    check_replies(alloc, &mut job, &mut meter, &COLLECTED)?;
+    check_made(alloc, &mut job, &mut meter)?;
     // Eight instructions, and the attempt that met the check.
     assert_eq!(rt; meter.ticks(), 9);
     Ok(())
@@ -124,10 +138,7 @@ fn each_command_has_its_reply(rt: HostRuntime) -> Result<(), Fail> {
 fn no_slice_is_granted_past_the_most(rt: HostRuntime) -> Result<(), Fail> {
     let alloc = rt.alloc();
     let (mut job, mut meter) = (granted(alloc, 999_999_999)?, Meter::new());
-    for (command, wanted) in &GRANTED {
-        let reply = take(alloc, &mut job, command, &mut meter)?;
-        assert_eq!(rt; reply_text(alloc, &reply)?.as_str(), *wanted);
-    }
+    check_replies(alloc, &mut job, &mut meter, &GRANTED)?;
     assert_eq!(rt; meter.ticks(), 1);
     Ok(())
 }

@@ -71,6 +71,23 @@ const WITH_CARDS: &[Step] = &[
     ("cards 1/", "cards 1/", "cards of pocket 4"),
 ];
 
+const SUBMIT_THREE_CARDS: &str = "submit ACME 9 object 1400 - 1~three cards";
+
+const AS_LOADED: &str = "standing running held 0 collected 0 granted 0 cards 0 lines 0/";
+
+const AT_THE_HALT: &str =
+    "standing halted next 33 held 0 collected 0 granted 2000 cards 3 lines 0/";
+
+/// Commands on a job that punches three blank cards in one slice. Before the slice the machine is as
+/// loaded and there are no cards; after the slice it is at the halt and there are three.
+const WITH_THREE_CARDS: &[Step] = &[
+    ("taken 1/", "taken 1/", SUBMIT_THREE_CARDS),
+    (AS_LOADED, AS_LOADED, "standing ACME 9"),
+    ("ran 8 halted next 33/", "refused 23/", "slice ACME 9 2000"),
+    (AT_THE_HALT, AT_THE_HALT, "standing ACME 9"),
+    ("cards 3/", "cards 3/", "cards"),
+];
+
 /// The disks of a bureau without jobs.
 fn new_disks(alloc: Global) -> Result<Files<Memory>, Fail> {
     disks_after(alloc, &empty_disks(alloc), "create", "done/")
@@ -140,6 +157,18 @@ fn a_disk_fails_at_a_source_and_at_cards(rt: HostRuntime) -> Result<(), Fail> {
         found.as_slice(),
         [(565u32, 2u32), (170, 0), (405, 3), (183, 0)].as_slice()
     );
+    Ok(())
+}
+
+#[test]
+fn a_disk_fails_at_three_cards(rt: HostRuntime) -> Result<(), Fail> {
+    let alloc = rt.alloc();
+    let mut found = Vec::new(alloc);
+    for failing in [Failing::Log, Failing::Database] {
+        let stops = stops_of_each(alloc, new_disks(alloc)?, WITH_THREE_CARDS, failing)?;
+        found.push((stops.lost, stops.kept))?;
+    }
+    assert_eq!(rt; found.as_slice(), [(466u32, 2u32), (216, 0)].as_slice());
     Ok(())
 }
 

@@ -140,28 +140,44 @@ fn finds<C: Core>(core: &C, marked: u16, position: u16) -> bool {
         && core.mark_after(position) == (if is_after { Some(marked) } else { None })
 }
 
-/// The first position of 1400 from which a storage with one mark does not find it; of each of those
-/// that are `apart`, which are others at another mark.
-fn first_missed<C: Core>(core: &C, marked: u16, apart: u16) -> Option<u16> {
-    for position in 0..1400u16 {
-        let is_tried = position.wrapping_add(marked) % apart.max(1) == 0;
-        if is_tried && !finds(core, marked, position) {
+/// The first position from which a storage with one mark does not find it.
+fn first_missed<C: Core>(core: &C, marked: u16) -> Option<u16> {
+    for position in 0..core.size() {
+        if !finds(core, marked, position) {
             return Some(position);
         }
     }
     None
 }
 
-/// Whether a storage finds its one mark, wherever that is, from positions that are `apart`.
-fn finds_each<C: Core>(core: &mut C, apart: u16) -> bool {
-    for marked in 0..1400 {
+/// Whether a storage without marks finds one that is put at each position in turn, from every
+/// position.
+fn finds_each<C: Core>(core: &mut C) -> bool {
+    for marked in 0..core.size() {
         put_mark(core, marked, true);
-        if first_missed(core, marked, apart).is_some() {
+        if first_missed(core, marked).is_some() {
             return false;
         }
         put_mark(core, marked, false);
     }
     true
+}
+
+/// The search for a mark that is put at each position in turn. Input: the size of the storage.
+/// Output: whether the mark is found from every position.
+struct EachMark;
+
+impl Case for EachMark {
+    fn outcome<C: Core>(alloc: Global, given: &str) -> Result<String, Fail> {
+        let mut core = C::blank(alloc, size_of(number(given))?)?;
+        let is_found = finds_each(&mut core);
+        Ok(format!(in alloc; "{is_found}")?)
+    }
+}
+
+#[test]
+fn each_mark_is_found_from_everywhere(rt: HostRuntime) -> Result<(), Fail> {
+    check::<EachMark>(rt.alloc(), "1400 -> true")
 }
 
 /// Whether two storages find the same marks from a position.
@@ -205,8 +221,9 @@ fn agree_throughout<F: Core, P: Core>(
     true
 }
 
-/// The positions at the end of a storage from which marks are searched: one more than 64 lanes.
-const LAST: u16 = 65;
+/// The number of positions at the end of a storage that are marked in turn, and from which marks are
+/// searched: two chunks of 32 positions, each of which planes search at once, and 31 more.
+const LAST: u16 = 95;
 
 /// Whether a storage with two marks finds them from a position that is not below the first one.
 fn finds_both<C: Core>(core: &C, first: u16, second: u16, position: u16) -> bool {
@@ -250,12 +267,6 @@ fn find_at_the_end<F: Core, P: Core>(flags: &mut F, planes: &mut P, first: u16) 
     true
 }
 
-/// Whether a storage of 1400 positions finds its one mark, wherever that is.
-fn finds_all<C: Core>(alloc: Global, apart: u16) -> Result<bool, AllocError> {
-    let mut core = C::blank(alloc, Size::Positions1400)?;
-    Ok(finds_each(&mut core, apart))
-}
-
 /// Whether both kinds of storage of this size find the same marks.
 fn throughout<F: Core, P: Core>(
     alloc: Global,
@@ -269,7 +280,7 @@ fn throughout<F: Core, P: Core>(
 }
 
 /// Whether both kinds of storage of this size find each mark among their last positions. The other
-/// mark is as far from the end as two times 64 lanes and one more.
+/// mark is 128 positions, or four chunks of 32, below the last position.
 fn ends_agree<F: Core, P: Core>(alloc: Global, size: Size) -> Result<bool, AllocError> {
     let mut flags = F::blank(alloc, size)?;
     let mut planes = P::blank(alloc, size)?;
@@ -277,17 +288,11 @@ fn ends_agree<F: Core, P: Core>(alloc: Global, size: Size) -> Result<bool, Alloc
     Ok(find_at_the_end(&mut flags, &mut planes, first))
 }
 
-/// What is found wrongly: by flags from some positions, by planes from all; by one kind otherwise
-/// than by the other, also in the largest size; or at the end of a size. Empty if nothing is.
+/// Where the two kinds of storage find different marks, or wrong ones: in the smallest size, in the
+/// largest, or at the end of a size. Empty if they find the same, right marks.
 fn misfound<F: Core, P: Core>(alloc: Global) -> Result<&'static str, AllocError> {
-    if !finds_all::<F>(alloc, 101)? {
-        return Ok("by flags");
-    }
-    if !finds_all::<P>(alloc, 1)? {
-        return Ok("by planes");
-    }
     if !throughout::<F, P>(alloc, Size::Positions1400, 37, 1)? {
-        return Ok("by one kind");
+        return Ok("in the smallest size");
     }
     if !throughout::<F, P>(alloc, Size::Positions16000, 421, 37)? {
         return Ok("in the largest size");
@@ -301,7 +306,7 @@ fn misfound<F: Core, P: Core>(alloc: Global) -> Result<&'static str, AllocError>
 }
 
 #[test]
-fn marks_are_found_from_everywhere(rt: HostRuntime) -> Result<(), Fail> {
+fn both_kinds_find_the_same_marks(rt: HostRuntime) -> Result<(), Fail> {
     assert_eq!(rt; misfound::<FlagCore, PlaneCore>(rt.alloc())?, "");
     Ok(())
 }

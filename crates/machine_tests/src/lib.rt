@@ -22,6 +22,8 @@ mod decks;
 #[cfg(test)]
 mod draws;
 #[cfg(test)]
+mod effective;
+#[cfg(test)]
 mod listings;
 #[cfg(test)]
 mod machines;

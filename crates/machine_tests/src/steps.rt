@@ -60,7 +60,8 @@ fn last_event<C: Core>(
 fn event_text(alloc: Global, event: Event) -> Result<String, AllocError> {
     match event {
         Event::Next => Ok(String::new(alloc)),
-        _ => format!(in alloc; "{event:?} "),
+        Event::Halt => String::from_str(alloc, "Halt "),
+        Event::Check(check) => format!(in alloc; "Check({check:?}) "),
     }
 }
 
