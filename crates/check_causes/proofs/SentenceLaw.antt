@@ -15,7 +15,8 @@ use Rattle.addresses.specs.Effective.{units_position, base_ending}
 use Rattle.addresses.specs.declared.tagged.IndexLocation.{IndexLocation}
 use Rattle.addresses.specs.declared.tagged.IndexLocation.TheVariants.{First, Second, Third}
 use Rattle.arith.specs.declared.operands.Counts.{Counts}
-use Rattle.moves.specs.Moved.{move_length, least_of}
+use Rattle.moves.specs.Moved.{move_length}
+use Rattle.core_store.specs.Operands.{least_of}
 use Rattle.moves.specs.Edited.{is_sharing, places}
 use Rattle.units.specs.declared.carriage.Carriage.{Carriage}
 use Rattle.units.specs.declared.carriage.CarriageOrder.{CarriageOrder}

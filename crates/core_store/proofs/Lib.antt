@@ -2,6 +2,7 @@ pub mod Marks
 pub mod Fields
 pub mod OperandCuts
 pub mod NearMarks
+mod SharedMarks
 mod LaneLemmas
 mod PlaneLanes
 mod FlagCopies

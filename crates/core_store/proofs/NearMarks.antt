@@ -21,7 +21,7 @@ bare_more s p count none here k lt =
       | no last ↦ let same : k ≡ count = omega arith in ap (λ n. is_marked s (p - n)) same ∙ here
     ]
 
-field_here : (s : Storage) (p count : ℕ) → count ≤ p → is_marked s (p - count) ≡ true → Bare s p count → field_length s p ≡ Some (count + 1)
+pub field_here : (s : Storage) (p count : ℕ) → count ≤ p → is_marked s (p - count) ≡ true → Bare s p count → field_length s p ≡ Some (count + 1)
 unfolding field_length
 field_here s p count le marked none =
     let many : p + 1 - (p - count) ≡ count + 1 = omega arith in

@@ -1,5 +1,5 @@
 -- the last of some bytes that is not 0
-use Rattle.std.proofs.Common.{◌≡◌, ◌≢◌, ℕ, suc, ◌+◌, ◌-◌, ◌/◌, ◌%◌, ◌^◌, ◌<◌, ◌≤◌, ◌∙◌, Bool, true, false, cond, List, get_or, length, map, ap, sym, refl, arith}
+use Rattle.std.proofs.Common.{◌≡◌, ◌≢◌, inl, inr, ℕ, suc, min, ◌+◌, ◌-◌, ◌/◌, ◌%◌, ◌^◌, ◌<◌, ◌≤◌, ◌∙◌, Bool, true, false, cond, List, get_or, length, map, ap, sym, refl, arith}
 use Rattle.std.specs.Simd.Lanes.{mask_l, chunk}
 use Rattle.std.specs.Int.Count.{count_leading_zeros}
 use Rattle.std.proofs.Math.Decide.{dec_lt}
@@ -8,6 +8,7 @@ use Rattle.std.proofs.Math.Nat.{div-eq_of_lt, div-eq_of_lt-le, pow-suc}
 use Rattle.std.proofs.lemmas.Nat.{leading_top}
 use Rattle.std.proofs.lemmas.List.{get_or-map, length-map}
 use Rattle.std.proofs.lemmas.Simd.{none_from_empty_mask, length-chunk, get_or-chunk, mask_l-lt, bit_mask_l}
+use Rattle.core_store.specs.Planes.{AreBare, IsEither}
 use Rattle.core_store.proofs.PlaneLemmas.{is_some, not_zero, some_is}
 
 set_bit : (b : Bool) (n : ℕ) → n ≡ cond b 1 0 → n ≡ 1 → b ≡ true
@@ -95,4 +96,31 @@ passed_over marks end run place after none k from upto =
           let back : k ≡ end - 1 - (end - 1 - k) = omega arith in
           ap (λ n. get_or marks n 0) back ∙ after (end - 1 - k) (omega arith)
       | no past ↦ none k (omega arith) upto
+    ]
+
+-- what was passed over on the way to a mark in either of two fields
+pub both_passed : (marks : List ℕ) (a b count one two run : ℕ) → run ≤ one → run ≤ two → AreBare marks a b count
+    → ((k : ℕ) → k < one → get_or marks (a - count - k) 0 ≡ 0) → ((k : ℕ) → k < two → get_or marks (b - count - k) 0 ≡ 0) → AreBare marks a b (count + run)
+both_passed marks a b count one two run le_one le_two bare after_a after_b k lt =
+    elim (dec_lt k count) [
+      | yes before ↦ bare k before
+      | no past ↦
+          let a_back : a - k ≡ a - count - (k - count) = omega arith in
+          let b_back : b - k ≡ b - count - (k - count) = omega arith in (
+            ap (λ n. get_or marks n 0) a_back ∙ after_a (k - count) (omega arith),
+            ap (λ n. get_or marks n 0) b_back ∙ after_b (k - count) (omega arith),
+          )
+    ]
+
+-- the nearer of the marks that end two runs
+pub either_stops : (marks : List ℕ) (a b count one two run : ℕ) → run ≡ min one two → run < 16 → (one < 16 → get_or marks (a - count - one) 0 ≢ 0) → (two < 16 → get_or marks (b - count - two) 0 ≢ 0)
+    → IsEither marks a b (count + run)
+either_stops marks a b count one two run is lt stops_a stops_b =
+    elim (dec_lt two one) [
+      | yes second ↦
+          let place : b - (count + run) ≡ b - count - two = omega arith in
+          inr (λ zero_there. stops_b (omega arith) (ap (λ n. get_or marks n 0) (sym place) ∙ zero_there))
+      | no first ↦
+          let place : a - (count + run) ≡ a - count - one = omega arith in
+          inl (λ zero_there. stops_a (omega arith) (ap (λ n. get_or marks n 0) (sym place) ∙ zero_there))
     ]

@@ -1,5 +1,5 @@
 -- planes of codes and marks
-use Rattle.std.proofs.Common.{◌≡◌, ◌≢◌, ℕ, zero, suc, ◌+◌, ◌-◌, ◌<◌, ◌≤◌, ◌∙◌, Bool, true, false, not, cond, ◌%◌, ◌^◌, eqb, ltb, leb, ◌||◌, All, drop, List, [], ◌∷◌, Option, Some, None, get_or, set, length, replicate, map, ap, ap₂, sym, refl, arith}
+use Rattle.std.proofs.Common.{◌≡◌, ◌≢◌, ◌⊎◌, inl, inr, ℕ, zero, suc, ◌+◌, ◌-◌, ◌<◌, ◌≤◌, ◌∙◌, Bool, true, false, not, cond, ◌%◌, ◌^◌, eqb, ltb, leb, ◌||◌, All, drop, List, [], ◌∷◌, Option, Some, None, get_or, set, length, replicate, map, min, ap, ap₂, sym, refl, arith}
 use Rattle.std.proofs.lemmas.Bool.{eqb-true, lt-ltb}
 use Rattle.std.specs.Simd.Lanes.{mask_l, chunk}
 use Rattle.std.proofs.lemmas.Simd.{tops_compared, zip2_splat_left, mask_l-mod, none_from_empty_mask, length-chunk, get_or-chunk, trailing_mask_l, run_in_chunk_le, run_in_chunk_fails, run_in_chunk_stops}
@@ -11,11 +11,12 @@ use Rattle.std.proofs.lemmas.List.{length-map}
 use Rattle.std.specs.List.{prefix_len, AllByRecursion}
 use Rattle.std.proofs.lemmas.List.Elements.{recursion_from_All, All-take, All-drop}
 use Rattle.core_store.specs.Storage.{is_marked, put, with_mark, greatest_mark, least_mark}
-use Rattle.core_store.specs.Operands.{near_length}
+use Rattle.core_store.specs.Operands.{near_length, shared_length}
+use Rattle.core_store.proofs.SharedMarks.{shared_here, shared_none}
 use Rattle.core_store.proofs.NearMarks.{Bare, near_marked, near_unmarked}
 use Rattle.std.proofs.Math.Decide.{dec_lt}
 use Rattle.core_store.proofs.Marks.{none_below, greatest_is, least_is, none_among}
-use Rattle.core_store.specs.Planes.{IsBit, joined_planes, IsLastMark}
+use Rattle.core_store.specs.Planes.{AreBare, IsBit, IsEither, joined_planes, IsLastMark}
 
 pub not_other : (b : Bool) → not b ≡ false → b ≡ true
 not_other true h = refl
@@ -183,3 +184,28 @@ near_joined codes marks slice same p run even room most after stops =
     ] where
       bare : Bare (joined_planes codes marks) p run
       bare k lt = unmarked codes marks (p - k) even (ap (λ l. get_or l (p - k) 0) (sym same) ∙ after k lt)
+
+marked_there : (codes marks : List ℕ) (k : ℕ) → length codes ≡ length marks → get_or marks k 0 ≢ 0 → is_marked (joined_planes codes marks) k ≡ true
+marked_there codes marks k even some =
+    let more : 0 < get_or marks k 0 = omega (arith, some) in mark-joined_at codes marks k even ∙ lt-ltb 0 (get_or marks k 0) more
+
+-- two fields of planes, of which so many last bytes are no marks
+module _ (codes marks slice : List ℕ) (same : slice ≡ marks) (a b run : ℕ) (even : length codes ≡ length marks) where
+  bare_a : AreBare slice a b run → Bare (joined_planes codes marks) a run
+  bare_a none k lt = unmarked codes marks (a - k) even (ap (λ l. get_or l (a - k) 0) (sym same) ∙ (none k lt).0)
+
+  bare_b : AreBare slice a b run → Bare (joined_planes codes marks) b run
+  bare_b none k lt = unmarked codes marks (b - k) even (ap (λ l. get_or l (b - k) 0) (sym same) ∙ (none k lt).1)
+
+  some_in : (p : ℕ) → get_or slice p 0 ≢ 0 → is_marked (joined_planes codes marks) p ≡ true
+  some_in p some = marked_there codes marks p even (λ zero_there. some (ap (λ l. get_or l p 0) same ∙ zero_there))
+
+  either : IsEither slice a b run → (is_marked (joined_planes codes marks) (a - run) ≡ true) ⊎ (is_marked (joined_planes codes marks) (b - run) ≡ true)
+  either (inl some) = inl (some_in (a - run) some)
+  either (inr some) = inr (some_in (b - run) some)
+
+  pub shared_joined : run ≤ min a b → AreBare slice a b run → IsEither slice a b run → Some (run + 1) ≡ shared_length (joined_planes codes marks) a b
+  shared_joined within none some = shared_here (joined_planes codes marks) a b run (omega arith) (omega arith) (either some) (bare_a none) (bare_b none)
+
+  pub shared_none_joined : run ≡ min a b + 1 → AreBare slice a b run → None ≡ shared_length (joined_planes codes marks) a b
+  shared_none_joined all none = shared_none (joined_planes codes marks) a b run all (bare_a none) (bare_b none)

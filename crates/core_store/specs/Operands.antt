@@ -42,6 +42,21 @@ abbrev pub is_within : Option ℕ → ℕ → Bool
 is_within (Some count) limit = nat_le count limit
 is_within None limit = false
 
+-- the smaller of two counts, or the one that is there
+abbrev pub least_of : Option ℕ → Option ℕ → Option ℕ
+least_of (Some m) (Some n) = Some (min m n)
+least_of (Some m) None = Some m
+least_of None found = found
+
+-- a count, if there is one and it is at most this limit
+abbrev pub up_to : ℕ → Option ℕ → Option ℕ
+up_to limit found = if is_within found limit then found else None
+
+-- how many characters two fields share: counted from a and from b side by side, up to the first
+-- word mark in either; none if one of the two fields passes position 0 before
+unfoldable pub shared_length : Storage → ℕ → ℕ → Option ℕ
+shared_length s a b = up_to (min a b + 1) (least_of (field_length s a) (field_length s b))
+
 -- a length, or 17 if it is more than 16 or there is none
 abbrev pub sought_near : Option ℕ → ℕ
 sought_near (Some count) = min 17 count

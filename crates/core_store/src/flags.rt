@@ -128,6 +128,18 @@ impl Core for FlagCore {
         17
     }
 
+    fn shared_length(&self, a: u16, b: u16) -> Option<u16> {
+        for count in 0..self.size() {
+            if count > a.min(b) {
+                return None;
+            }
+            if self.is_marked(a - count) || self.is_marked(b - count) {
+                return Some(count + 1);
+            }
+        }
+        None
+    }
+
     fn nine_marks(&self, position: u16) -> u64 {
         let mut marks = 0;
         for place in (0..9).rev() {

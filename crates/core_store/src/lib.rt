@@ -30,7 +30,7 @@ ghost use Rattle.std.specs.{
 };
 ghost use Rattle.core_store.specs.{
   Storage.{blank_cell, blank_storage, cells_ending, code_at, codes_ending, codes_from, is_marked, marks_from, put, put_cells, put_codes, with_mark, greatest_mark, largest_size, least_mark, GreatestMark, LeastMark, Storage, positions_of},
-  Operands.{is_overlapping, near_length},
+  Operands.{is_overlapping, near_length, shared_length},
 };
 
 use bcd::Code;
@@ -163,6 +163,13 @@ pub trait Core: Sized + Drop {
         requires room { 15 ≤ position }
         ensures length { result ≡ near_length (cells self.now) position }
         ensures some { 1 ≤ result };
+
+    /// The number of characters that two fields share: counted from A and from B side by side, up to
+    /// the first mark in either. `None` if one of the two passes position 000 before.
+    fn shared_length(&self, a: u16, b: u16) -> Option<u16>
+        requires a_in { a < length (cells self.now) }
+        requires b_in { b < length (cells self.now) }
+        ensures length { result ≡ shared_length (cells self.now) a b };
 
     /// The word marks of nine positions as bits, that of the position itself lowest.
     fn nine_marks(&self, position: u16) -> u64

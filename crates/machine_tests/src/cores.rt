@@ -188,6 +188,8 @@ fn agree<F: Core, P: Core>(flags: &F, planes: &P, position: u16) -> bool {
         && flags.mark_after(position) == planes.mark_after(position)
         && (position < 15 || flags.near_length(position) == planes.near_length(position))
         && flags.word_end(position) == planes.word_end(position)
+        && flags.shared_length(position, position) == planes.shared_length(position, position)
+        && flags.shared_length(position, position / 2) == planes.shared_length(position, position / 2)
 }
 
 /// The first position of a storage, from one on, from which another storage finds different marks:

@@ -1,17 +1,11 @@
 -- the operation Move Characters to A or B Word Mark
-use Rattle.std.specs.Prelude.{ℕ, zero, suc, ◌≡◌, ◌<◌, ◌≤◌, ◌+◌, ◌-◌, ◌%◌, ◌&&◌, nat_le, min, List, [], ◌∷◌, if◌then◌else◌, Option, Some, None, Result, Ok}
+use Rattle.std.specs.Prelude.{ℕ, zero, suc, ◌≡◌, ◌<◌, ◌≤◌, ◌+◌, ◌-◌, ◌%◌, ◌&&◌, nat_le, List, [], ◌∷◌, if◌then◌else◌, Option, Result, Ok}
 use Rattle.core_store.specs.Storage.{Storage, code_at, is_marked, put_codes, field_length}
-use Rattle.core_store.specs.Operands.{are_inside, lowered_by}
+use Rattle.core_store.specs.Operands.{are_inside, least_of, lowered_by}
 use Rattle.core_store.specs.Checked.{require, find_or}
 use Rattle.core_store.specs.declared.registers.Registers.{Registers}
 use Rattle.core_store.specs.declared.checks.Check.{Check}
 use Rattle.core_store.specs.declared.checks.Check.TheVariants.{Address}
-
--- the smaller of two counts, or the one that is there
-abbrev pub least_of : Option ℕ → Option ℕ → Option ℕ
-least_of (Some m) (Some n) = Some (min m n)
-least_of (Some m) None = Some m
-least_of None found = found
 
 -- how many characters are moved: up to the first word mark in either field
 unfoldable pub move_length : Storage → ℕ → ℕ → Option ℕ

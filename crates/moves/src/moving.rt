@@ -4,12 +4,12 @@ ghost use Rattle.std.specs.Prelude.{◌≡◌, ◌+◌, ◌-◌, ◌<◌, ◌≤
 ghost use Rattle.core_store.specs.{
   Doing.{Does, DoesAt, DoesAtOrLeaves, DoesOrLeaves},
   Storage.{Storage, put_codes, largest_size},
-  Operands.{is_overlapping, AreClear},
+  Operands.{is_overlapping, least_of, AreClear},
   declared.registers.Registers.{Registers},
 };
 ghost use Rattle.moves.specs.{
   Stretches.{AreIn, AreNear},
-  Moved.{least_of, move_length, moved_codes, moved, IsMoved},
+  Moved.{move_length, moved_codes, moved, IsMoved},
 };
 
 use crate::near::put_last;
@@ -60,6 +60,22 @@ fn near_minimum<C: Core>(core: &C, a: u16, b: u16) -> Option<u16>
     Some(count)
 }
 
+/// The number of characters of a move, searched for in both fields side by side. Each field is
+/// searched by itself only if one of the two passes position 000 before a mark.
+#[tactic(auto, using(crate::proofs::MovingEnds::far_shared), unfolding(crate::specs::Moved::move_length))]
+fn far_length<C: Core>(core: &C, a: u16, b: u16) -> Option<u16>
+    requires a_in { a < length (C.cells core.now) }
+    requires b_in { b < length (C.cells core.now) }
+    requires a_below { a < largest_size }
+    requires b_below { b < largest_size }
+    ensures { result ≡ move_length (C.cells core.now) a b }
+{
+    match core.shared_length(a, b) {
+        Some(count) => Some(count),
+        None => least_of(field_length(core, a), field_length(core, b)),
+    }
+}
+
 /// The number of characters of a move: up to the first mark in either field.
 #[inline(always)]
 #[tactic(auto, unfolding(crate::specs::Moved::move_length))]
@@ -72,7 +88,7 @@ pub fn move_length<C: Core>(core: &C, a: u16, b: u16) -> Option<u16>
 {
     match near_shared(core, a, b) {
         Some(count) => Some(count),
-        None => least_of(field_length(core, a), field_length(core, b)),
+        None => far_length(core, a, b),
     }
 }
 

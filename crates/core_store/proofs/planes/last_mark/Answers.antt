@@ -10,11 +10,3 @@ returns-then-run-lt32 c =
       not_above = omega arith;
       none_between = λ k lt le. passed_over c.args.marks.now c.loop-end.end run.result c.args.place run.ensures.after c.loop-end.invariant.none k (omega arith) le;
     }
-
-pub loop-end-preserved : goal.loop-end-preserved
-loop-end-preserved c =
-    let run = c.unmarked_before_32-run in
-    record {
-      within = omega arith;
-      none = λ k from upto. passed_over c.args.marks.now c.loop-end.end run.result c.args.place run.ensures.after c.loop-end.invariant.none k (omega (arith, run.ensures.most)) upto;
-    }
