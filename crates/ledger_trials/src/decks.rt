@@ -12,11 +12,11 @@ B342.                                  L006361,360361N000000N0000001040
 HELLO                                                                           
 WORLD                                                                           ";
 
-/// A program that punches its own card three times.
+/// A program that punches three blank cards.
 const THREE_CARDS: &str = "\
 ,008015,022029,030031,032033444.                                                ";
 
-/// A program that punches its own card into pocket 4, into the normal one, and into pocket 8.
+/// A program that punches a blank card into pocket 4, one into the normal pocket, and one into 8.
 const THREE_POCKETS: &str = "\
 ,008015,022029,036043,045046,047049,050051K444K84.                              ";
 

@@ -189,7 +189,8 @@ fn agree<F: Core, P: Core>(flags: &F, planes: &P, position: u16) -> bool {
         && (position < 15 || flags.near_length(position) == planes.near_length(position))
         && flags.word_end(position) == planes.word_end(position)
         && flags.shared_length(position, position) == planes.shared_length(position, position)
-        && flags.shared_length(position, position / 2) == planes.shared_length(position, position / 2)
+        && flags.shared_length(position, position / 2)
+            == planes.shared_length(position, position / 2)
 }
 
 /// The first position of a storage, from one on, from which another storage finds different marks:
@@ -223,8 +224,8 @@ fn agree_throughout<F: Core, P: Core>(
     true
 }
 
-/// The number of positions at the end of a storage that are marked in turn, and from which marks are
-/// searched: two chunks of 32 positions, each of which planes search at once, and 31 more.
+/// The number of positions at the end of a storage that are marked in turn, and from which marks
+/// are searched: two chunks of 32 positions, each of which planes search at once, and 31 more.
 const LAST: u16 = 95;
 
 /// Whether a storage with two marks finds them from a position that is not below the first one.
@@ -359,8 +360,9 @@ fn copy_to_the_beginning<C: Core>(core: &mut C, last: u16) {
 }
 
 /// Characters and marks. Input: the size of the storage. Output: whether its last position has no
-/// mark after a letter was put there, and has both in a copy of the storage after it was marked; and
-/// the beginning of a storage to which its last sixteen characters were copied, without their marks.
+/// mark after a letter was put there, and has both in a copy of the storage after it was marked;
+/// and the beginning of a storage to which its last sixteen characters were copied, without their
+/// marks.
 struct Kept;
 
 impl Case for Kept {
