@@ -47,10 +47,15 @@ class Crates:
                         count += sum(1 for line in text)
         return count
 
-    def heights(self, names):
-        """Of each crate the most lines in one chain of crates that use it: what waits for it."""
+    def heights(self, names, compiling):
+        """Of each crate the most lines in one chain of crates that use it: what waits for it. To
+        compile a program counts as so many lines."""
         found = {}
         for name in reversed(names):
             users = [found[it] for it in names if name in self.uses[it]]
-            found[name] = self.length(name) + max(users, default=0)
+            found[name] = self.length(name) + compiling * self.is_program(name) + max(users, default=0)
         return found
+
+    def lowest_first(self, names):
+        """These crates and all that they use, lowest first."""
+        return list(dict.fromkeys(it for name in names for it in [*self.below(name), name]))

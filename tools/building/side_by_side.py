@@ -1,8 +1,12 @@
-"""Proves crates side by side, each as soon as the crates that it uses are proved."""
+"""Proves crates side by side, each as soon as the crates that it uses are proved, and makes programs."""
 import os
+import subprocess
 import threading
 
 import rooms
+
+# What compiling and linking a program take, as lines of a crate would.
+COMPILING = 6000
 
 
 def memory():
@@ -16,13 +20,25 @@ def processors():
     return len(os.sched_getaffinity(0))
 
 
+def answers(program):
+    """Why a file is no program, or None where it answers --version."""
+    try:
+        ran = subprocess.run([program, "--version"], stdin=subprocess.DEVNULL,
+                             stdout=subprocess.PIPE, stderr=subprocess.STDOUT, timeout=60)
+    except (OSError, subprocess.TimeoutExpired) as error:
+        return f"rt made no program that runs: {error}"
+    is_well = ran.returncode == 0 and ran.stdout
+    return None if is_well else "rt made a program that does not answer --version"
+
+
 class Proving:
-    """The crates that a program is made of, lowest first, and how far each is."""
+    """The crates that programs are made of, these among them, lowest first, and how far each is."""
 
     def __init__(self, crates, names, sources, runs, progress):
         self.crates, self.names, self.sources = crates, names, sources
         self.runs, self.progress = runs, progress
-        self.heights = crates.heights(names)
+        self.programs = [it for it in names if crates.is_program(it)]
+        self.heights = crates.heights(names, COMPILING)
         self.running, self.proved, self.failed = set(), set(), []
         self.changed, self.has_news = threading.Condition(), False
         # One more than there are processors, so that a crate of a long chain need not wait for
@@ -30,8 +46,8 @@ class Proving:
         self.slots = max(1, min(processors() + 1, memory() // 2_500_000_000))
 
     def waiting(self):
-        """The crates below the program that are not begun, those of the longest chain first."""
-        left = set(self.names[:-1]) - self.proved - self.running - set(self.failed)
+        """The crates that are not begun, those of the longest chain first."""
+        left = set(self.names) - self.proved - self.running - set(self.failed)
         return sorted(left, key=lambda name: (-self.heights[name], name))
 
     def take(self, name):
@@ -40,17 +56,31 @@ class Proving:
 
     def told(self):
         """How far the work is, and what is left."""
-        left = len(self.names) - 1 - len(self.proved) - len(self.running)
+        left = len(self.names) - len(self.proved) - len(self.running)
         after = f"after {self.progress.seconds()} seconds"
         text = f"{len(self.proved)} of {len(self.names)} crates proved {after}"
-        if not self.running and not left:
-            return f"{text}; left: {self.names[-1]}, the program, is proved, compiled and linked"
-        return f"{text}; in work: {', '.join(sorted(self.running))}; after them {left + 1}"
+        in_work = [f"{it}, a program" if it in self.programs else it for it in sorted(self.running)]
+        return f"{text}; in work: {', '.join(in_work)}; after them {left}" if in_work else text
+
+    def is_good(self, name, made):
+        """Why what rt made of a crate is not good, or None. A program is as old as its sources."""
+        if name not in self.programs:
+            return None
+        why = answers(f"{made}/{name}")
+        if why is None:
+            given = os.stat(f"{self.sources}/crates.txt").st_mtime
+            os.utime(f"{made}/{name}", (given, given))
+        return why
 
     def work(self, name, jobs):
         try:
             words = ["lib", "--jobs", str(jobs)]
-            why = rooms.work_at(name, self.crates, self.sources, words, self.runs)
+            if name in self.programs:
+                # For any processor of x86-64. Those of ./test are for later ones: rt ci takes no
+                # such word.
+                words = ["run", "--cpu=x86-64", "--jobs", str(jobs), "--", "--version"]
+            why = rooms.work_at(name, self.crates, self.sources, words, self.runs,
+                                lambda made: self.is_good(name, made))
         except rooms.Stopped:
             why = "stopped"
         except OSError as error:
@@ -71,17 +101,18 @@ class Proving:
         longest = max((self.heights[it] for it in [*ready, *self.running]), default=0)
         alone = len(ready) == 1 and not self.running
         for name in ready:
-            # The longest chain takes longest: its next crate waits for no slot, and gets most jobs.
+            # The longest chain takes longest: its next crate waits for no slot, and gets most jobs,
+            # of which a further one makes a proof a quarter dearer.
             is_longest = self.heights[name] == longest
             if len(self.running) >= self.slots + is_longest:
                 break
-            jobs = max(1, processors() - (not alone)) if is_longest else 1
+            jobs = max(1, min(4, processors() - (not alone))) if is_longest else 1
             self.running.add(name)
             threading.Thread(target=self.work, args=(name, jobs), daemon=True).start()
 
     def prove(self):
-        """Proves all below the program, and returns whether all is proved. Begins nothing more where
-        a crate fails, or where nobody reads what is said; but what is begun is ended and kept."""
+        """Proves all, and returns whether all is proved. Begins nothing more where a crate fails, or
+        where nobody reads what is said; but what is begun is ended and kept."""
         with self.changed:
             while True:
                 if not self.failed and self.progress.is_read:
