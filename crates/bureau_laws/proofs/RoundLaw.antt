@@ -9,7 +9,7 @@ use Rattle.office.specs.Office.{Office, fold}
 use Rattle.office.specs.declared.commands.Command.{Command}
 use Rattle.ledger_tables.specs.Schema.{bureau_schema, own_version}
 use Rattle.ledger.specs.Older.{LeftOf, RowsOf, schema_of}
-use Rattle.ledger.specs.Standing.{Rows, LeftAs}
+use Rattle.office_tables.specs.Standing.{Rows, LeftAs}
 use Rattle.ledger_files.specs.Migrating.{AreOfVersion}
 use Rattle.ledger_files.specs.Opening.{AreOf, IsAnswerFor}
 use Rattle.ledger_files.specs.Unfinished.{HoldSame}

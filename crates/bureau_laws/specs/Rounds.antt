@@ -7,7 +7,7 @@ use Rattle.office.specs.Office.{Office, fold}
 use Rattle.office.specs.declared.commands.Command.{Command}
 use Rattle.office.specs.declared.replies.Reply.{Reply}
 use Rattle.ledger_tables.specs.Schema.{bureau_schema}
-use Rattle.ledger.specs.Standing.{LeftAs}
+use Rattle.office_tables.specs.Standing.{LeftAs}
 use Rattle.ledger.specs.WholeRows.{HaveWholeRows}
 use Rattle.ledger_files.specs.Migrating.{AreOfVersion, MigratesTo}
 use Rattle.ledger_files.specs.Opening.{IsAnswerFor}

@@ -5,7 +5,7 @@ use Rattle.machine.specs.Run.{risen}
 use Rattle.sqlite.specs.Held.{Held, state}
 use Rattle.sqlite.specs.Tree.{Trees}
 use Rattle.sqlite_trees.specs.declared.store.Store.{Ghosts}
-use Rattle.ledger.specs.Standing.{LeftAs, Stands}
+use Rattle.office_tables.specs.Standing.{LeftAs, Stands}
 use Rattle.office.specs.Meters.{RisenAtMost}
 use Rattle.office.specs.Office.{Office, attempted, take}
 use Rattle.office.specs.declared.commands.Command.{Command}

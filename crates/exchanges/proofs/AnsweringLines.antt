@@ -20,7 +20,7 @@ use Rattle.office.specs.declared.refusals.Refusal.{Refusal}
 use Rattle.office.specs.declared.refusals.Refusal.TheVariants as refusal
 use Rattle.office.specs.declared.replies.Reply.{Reply}
 use Rattle.office.specs.declared.replies.Reply.TheVariants as reply
-use Rattle.ledger.specs.Standing.{CanBeKept, LeftAs, Rows, Stands}
+use Rattle.office_tables.specs.Standing.{CanBeKept, LeftAs, Rows, Stands}
 use Rattle.ledger.proofs.Offices.{job_is}
 use Rattle.http_messages.specs.Replies.{HasLinesInOrder}
 

@@ -22,7 +22,7 @@ use Rattle.scripts.proofs.SendingLemmas.{part_after}
 use Rattle.ledger_tables.specs.declared.faults.Fault.{Fault}
 use Rattle.ledger_tables.specs.declared.faults.Fault.TheVariants.{NoMemory, Store}
 use Rattle.ledger.proofs.ShiftLemmas.{office_more, replies_more}
-use Rattle.ledger.specs.Standing.{Stands}
+use Rattle.office_tables.specs.Standing.{Stands}
 use Rattle.ledger_tables.specs.Faults.{fault_number}
 use Rattle.exchanges.specs.Ending.{StopsAtFirst}
 use Rattle.exchanges.specs.declared.script_ends.ScriptEnd.TheVariants as ended

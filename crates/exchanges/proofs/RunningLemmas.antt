@@ -6,7 +6,7 @@ use Rattle.sqlite.specs.Effect.{Database}
 use Rattle.sqlite.specs.Held.{Held}
 use Rattle.sqlite_trees.specs.declared.store.Store.{Ghosts}
 use Rattle.ledger.proofs.WorkLemmas.{worked_in_turn}
-use Rattle.ledger.specs.Standing.{Rows}
+use Rattle.office_tables.specs.Standing.{Rows}
 use Rattle.ledger.specs.WholeRows.{HaveWholeRows}
 use Rattle.ledger.specs.Working.{HasWorked}
 use Rattle.ledger_tables.specs.declared.faults.Fault.TheVariants.{NoMemory, Store}

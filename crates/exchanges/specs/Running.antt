@@ -5,7 +5,7 @@ use Rattle.office.specs.Office.{Office, fold}
 use Rattle.office.specs.declared.commands.Command.{Command}
 use Rattle.office.specs.declared.replies.Reply.{Reply}
 use Rattle.ledger.specs.Shifting.{LeavesBeginning, StandsAfter, TicksWithin}
-use Rattle.ledger.specs.Standing.{Stands}
+use Rattle.office_tables.specs.Standing.{Stands}
 use Rattle.std.specs.Io.KnownBytes.{Appends}
 use Rattle.scripts.specs.Replies.{fault_line, reply_line}
 use Rattle.scripts.specs.Sending.{WritesPart, counted}

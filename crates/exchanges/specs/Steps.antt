@@ -6,7 +6,7 @@ use Rattle.office.specs.Meters.{RisenAtMost}
 use Rattle.office.specs.Office.{Office}
 use Rattle.office.specs.declared.replies.Reply.{Reply}
 use Rattle.office.specs.declared.replies.Reply.TheVariants as reply
-use Rattle.ledger.specs.Standing.{Stands}
+use Rattle.office_tables.specs.Standing.{Stands}
 use Rattle.scripts.specs.Replies.{fault_line, reply_line}
 use Rattle.scripts.specs.Sending.{WritesPart, counted}
 use Rattle.exchanges.specs.declared.steps.Step.{Step}

@@ -12,7 +12,7 @@ use Rattle.office.specs.declared.replies.Reply.TheVariants as reply
 use Rattle.office.specs.declared.summaries.Summary.{Summary}
 use Rattle.sqlite.specs.Tree.{Trees}
 use Rattle.ledger_tables.specs.Tables.{AreDistinct}
-use Rattle.ledger.specs.Standing.{LeftAs, named}
+use Rattle.office_tables.specs.Standing.{LeftAs, named}
 use Rattle.ledger.proofs.SavingChanges.{same_job}
 
 -- the office is as it was, and the summary is that of the job of this name

@@ -18,7 +18,7 @@ use Rattle.job_archives.specs.declared.customers.Customers.TheVariants.{All, Nam
 use Rattle.sqlite.specs.Order.{Row}
 use Rattle.sqlite.specs.Tree.{Trees}
 use Rattle.sqlite.specs.declared.types.Value.TheVariants.{Int, Text}
-use Rattle.ledger.specs.Standing.{Rows}
+use Rattle.office_tables.specs.Standing.{Rows}
 use Rattle.ledger_tables.specs.Tables.{cells}
 use Rattle.job_checks.specs.Kept.{AreNamedApart, IsKept}
 use Rattle.job_checks.specs.Tables.{version_columns, AreRowsOf, AreRowsOfJob, HandsBack, HasRows, IsBureaus, TableRows, WholeTables}

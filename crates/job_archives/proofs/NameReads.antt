@@ -16,7 +16,7 @@ use Rattle.ledger_tables.proofs.LookupStatement.{ordered_query, show}
 use Rattle.ledger_tables.proofs.ReadTexts.{Selects}
 use Rattle.office.specs.Office.{Office}
 use Rattle.ledger.specs.Adopting.{IsUntouched}
-use Rattle.ledger.specs.Standing.{LeftAs, Rows, Stands, StandsIn, named}
+use Rattle.office_tables.specs.Standing.{LeftAs, Rows, Stands, StandsIn, named}
 use Rattle.ledger.proofs.BureauTransactions.{left_as}
 use Rattle.job_checks.proofs.TableAnswers.{whole_in_order}
 use Rattle.job_checks.proofs.WidthLemmas.{upto}

@@ -10,7 +10,7 @@ use Rattle.office.specs.Office.{Entry}
 use Rattle.office.specs.Stackers.{cards_from}
 use Rattle.office.specs.declared.stackers.Stacker.TheVariants.{All}
 use Rattle.units.specs.declared.punch.Punched.{Punched}
-use Rattle.ledger.specs.Standing.{CanBeKept}
+use Rattle.office_tables.specs.Standing.{CanBeKept}
 use Rattle.job_archives.specs.Archives.{Files, archive_of, cards_of, IsReadBack}
 use Rattle.job_archives.specs.Facts.{facts_of, IsFiled}
 use Rattle.job_archives.proofs.Readable.{readable}

@@ -19,7 +19,7 @@ use Rattle.office.specs.Office.{Entry}
 use Rattle.office.specs.declared.commands.Kind.{Kind}
 use Rattle.office.specs.declared.commands.Kind.TheVariants.{Object, Autocoder}
 use Rattle.office.specs.declared.summaries.Summary.{Summary}
-use Rattle.ledger.proofs.ReadingLemmas.{picture_before}
+use Rattle.office_tables.proofs.ReadingLemmas.{picture_before}
 use Rattle.job_archives.specs.Records.{deck_digests, digest_line, digest_lines, kind_word, line, made_lines, machine_lines, name_lines, pocket_lines, profile_word, record_of, standing_lines, stretch_line, yes_or_no}
 use Rattle.job_archives.proofs.RecordLines.{IsShort, HasNoPocket, HasNoStretch, pockets_of, same_pockets, same_stretches}
 use Rattle.job_archives.proofs.WordsRead.{after_three, after_two, has_none, no_end, none_in_both, same_line, same_number}

@@ -7,7 +7,7 @@ use Rattle.office.specs.Jobs.{cards_by}
 use Rattle.office.specs.Office.{Entry}
 use Rattle.office.specs.declared.commands.Kind.{Kind}
 use Rattle.office.specs.declared.stretches.Stretch.{Stretch}
-use Rattle.ledger.specs.Standing.{CanBeKept}
+use Rattle.office_tables.specs.Standing.{CanBeKept}
 use Rattle.job_checks.specs.Kept.{IsNamed}
 
 -- what a record says of a job: its name, its kind, size and profile, its stretches and flags, and

@@ -9,7 +9,7 @@ use Rattle.sqlite.specs.State.{HasCleanDisk, IsUnchanged}
 use Rattle.sqlite.specs.Tree.{Trees}
 use Rattle.sqlite.specs.View.{IsClean}
 use Rattle.sqlite_trees.specs.declared.store.Store.{Ghosts}
-use Rattle.ledger.specs.Standing.{Rows}
+use Rattle.office_tables.specs.Standing.{Rows}
 use Rattle.ledger_tables.specs.Schema.{bureau_schema}
 use Rattle.ledger_tables.specs.Tables.{cells}
 use Rattle.ledger_tables.specs.declared.faults.Fault.{Fault}

@@ -10,7 +10,7 @@ use Rattle.ledger_tables.specs.Tables.{AreDistinct}
 use Rattle.ledger_tables.specs.declared.faults.Fault.{Fault}
 use Rattle.ledger_tables.specs.declared.openings.OpenFault.{OpenFault}
 use Rattle.ledger.specs.Listed.{IsIts}
-use Rattle.ledger.specs.Standing.{LeftAs, Stands, StandsIn, named}
+use Rattle.office_tables.specs.Standing.{LeftAs, Stands, StandsIn, named}
 use Rattle.job_checks.specs.Texts.{summary_words}
 use Rattle.office.specs.Kept.{kept_of, summary_of}
 use Rattle.office.specs.Office.{Entry, Office}

@@ -2,7 +2,7 @@
 
 ghost use Rattle.std.specs.{Borrow.{Bor}, Prelude.{◌≡◌, ◌++◌, ℕ, List, [], true, false}};
 ghost use Rattle.office.specs.Office.{Entry, Office, own};
-ghost use Rattle.ledger.specs.Standing.{CanBeKept};
+ghost use Rattle.office_tables.specs.Standing.{CanBeKept};
 ghost use Rattle.job_archives.specs.{
   Archives.{IsReadBack, archive_of},
   Facts.{IsFiled, facts_of},

@@ -3,7 +3,7 @@
 ghost use Rattle.std.specs.Prelude.{◌≡◌, ◌≤◌, ◌++◌, decimal, map, option_map, Some, IfOk, IsTrue, OnOk};
 ghost use Rattle.office.specs.{Jobs.{Job}, Kept.{kept_of, summary_of}, Office.{Office, job_of}};
 ghost use Rattle.sqlite.specs.Held.{state};
-ghost use Rattle.ledger.specs.Standing.{named};
+ghost use Rattle.office_tables.specs.Standing.{named};
 ghost use Rattle.ledger_tables.specs.{Disks.{StaysClean}, Tables.{AreDistinct}};
 ghost use Rattle.sqlite.specs.{State.{HasCleanDisk}, View.{IsClean}};
 ghost use Rattle.job_archives.specs.{

@@ -12,7 +12,7 @@ ghost use Rattle.sqlite.specs.{
   State.{HasCleanDisk},
   declared.types.Value.TheVariants.{Int, Text},
 };
-ghost use Rattle.ledger.specs.Standing.{Stands, StandsIn, named};
+ghost use Rattle.office_tables.specs.Standing.{Stands, StandsIn, named};
 ghost use Rattle.ledger_tables.specs.{Disks.{StaysClean}, Tables.{AreDistinct}};
 ghost use Rattle.job_checks.specs.Tables.{LeavesLess};
 ghost use Rattle.job_archives.specs.{Lists.{Leaves}, Names.{HasName, name_row}};

@@ -3,7 +3,7 @@
 ghost use Rattle.std.specs.Prelude.{◌≡◌, IfOk, option_map, string_bytes};
 ghost use Rattle.office.specs.Office.{Office};
 ghost use Rattle.sqlite.specs.{Held.{state}, State.{HasCleanDisk}};
-ghost use Rattle.ledger.specs.Standing.{StandsIn};
+ghost use Rattle.office_tables.specs.Standing.{StandsIn};
 ghost use Rattle.ledger_tables.specs.Disks.{StaysClean};
 ghost use Rattle.job_checks.specs.Tables.{LeavesLess};
 ghost use Rattle.job_archives.specs.Parts.{IsShared, IsSharedAmong, IsUnknown, IsUnknownAmong, begins_with, has_row, names_in};

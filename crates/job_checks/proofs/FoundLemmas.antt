@@ -4,7 +4,7 @@ use Rattle.office.specs.Office.{Entry}
 use Rattle.sqlite.specs.Order.{Row, column}
 use Rattle.sqlite.specs.Tree.{Trees}
 use Rattle.ledger_tables.specs.Tables.{job_row}
-use Rattle.ledger.specs.Standing.{named}
+use Rattle.office_tables.specs.Standing.{named}
 use Rattle.job_checks.specs.Jobs.{HasRun, IsFound, IsNameOf, RunsIn}
 use Rattle.job_checks.specs.Outcomes.{IsAsItRan}
 use Rattle.job_checks.specs.Tables.{AreRowsOfJob, TableRows}

@@ -14,7 +14,7 @@ use Rattle.ledger_rows.specs.Pockets.{IsPunched}
 use Rattle.sqlite.specs.Order.{Row, column}
 use Rattle.sqlite.specs.declared.types.Value.TheVariants.{Int, Text}
 use Rattle.ledger_tables.specs.Tables.{job_row}
-use Rattle.ledger.specs.Standing.{named, CanBeKept}
+use Rattle.office_tables.specs.Standing.{named, CanBeKept}
 use Rattle.job_checks.specs.Again.{HasResumed, IsLoading}
 use Rattle.job_checks.specs.Jobs.{HasComeTo, HasRunAs, IsNameOf, entry_of, numbers_of, row_of}
 use Rattle.job_checks.specs.Kept.{HasMachine, IsNamed, rows_of_stretches}

@@ -18,7 +18,7 @@ use Rattle.sqlite.specs.Order.{Row, column, value_cmp}
 use Rattle.sqlite.specs.Tree.{IsAscending}
 use Rattle.ledger_tables.specs.Tables.{cells, has_customer, has_number, is_job, is_row_at, is_row_of, AreDistinct, IsOf, IsOfEach, IsOne, NamesJob}
 use Rattle.ledger_tables.proofs.LookupKeys.{at_most_one, key_is}
-use Rattle.ledger.specs.Standing.{named}
+use Rattle.office_tables.specs.Standing.{named}
 use Rattle.job_checks.specs.Kept.{IsOwned}
 use Rattle.job_checks.specs.Tables.{placed_some, rows_of, RiseByPlace}
 use Rattle.job_checks.proofs.AmongLemmas.{IsAmong, all_among, from_among, among_filter, found_among, filter_within}

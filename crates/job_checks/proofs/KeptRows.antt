@@ -13,7 +13,7 @@ use Rattle.sqlite.specs.Order.{Row}
 use Rattle.sqlite_keyed.proofs.ListLemmas.{map-map}
 use Rattle.ledger_tables.specs.Tables as row
 use Rattle.ledger_tables.specs.Tables.{job_row, placed, state_rows, profile_rows}
-use Rattle.ledger.specs.Standing.{named, stretches_of, state_of, pages_of, cards_of, lines_of, profile_of, pockets_of, CanBeKept, Rows}
+use Rattle.office_tables.specs.Standing.{named, stretches_of, state_of, pages_of, cards_of, lines_of, profile_of, pockets_of, CanBeKept, Rows}
 use Rattle.job_checks.specs.Kept.{rows_of_stretches, version_row, AreKept, AreOwned, HasMachine, IsKept}
 use Rattle.job_checks.specs.Tables.{pages_from, rows_of, version_columns, HasRows, WholeTables}
 use Rattle.job_checks.proofs.AmongLemmas.{IsAmong, all_among, from_among}

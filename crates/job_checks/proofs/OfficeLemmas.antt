@@ -7,7 +7,7 @@ use Rattle.sqlite.specs.declared.types.Value.TheVariants.{Int, Text}
 use Rattle.sqlite.specs.Order.{Row, column}
 use Rattle.ledger_tables.specs.Tables.{job_row}
 use Rattle.ledger_tables.proofs.LookupKeys.{key_is}
-use Rattle.ledger.specs.Standing.{named}
+use Rattle.office_tables.specs.Standing.{named}
 use Rattle.job_checks.specs.Kept.{AreNamedApart}
 
 abbrev pub row_in_jobs : Entry → Row

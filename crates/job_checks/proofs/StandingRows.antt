@@ -25,7 +25,7 @@ use Rattle.ledger_tables.specs.Cells.{unless_blank}
 use Rattle.ledger_tables.specs.Schema as schema
 use Rattle.ledger_tables.specs.Tables as row
 use Rattle.ledger_tables.specs.Tables.{cells, is_row_at, is_row_of, job_row, placed, state_rows, profile_rows, version_rows, AreDistinct, IsOf, IsOfEach, IsOne, NamedJob, HoldsShared}
-use Rattle.ledger.specs.Standing.{named, stretches_of, state_of, pages_of, cards_of, lines_of, profile_of, pockets_of, CanBeKept, Rows}
+use Rattle.office_tables.specs.Standing.{named, stretches_of, state_of, pages_of, cards_of, lines_of, profile_of, pockets_of, CanBeKept, Rows}
 use Rattle.sqlite_keyed.proofs.ListLemmas.{all_weaker}
 use Rattle.job_checks.specs.Checks.{KeepsTold}
 use Rattle.job_checks.specs.Kept.{AreKept, IsKept, IsOwned, version_row}

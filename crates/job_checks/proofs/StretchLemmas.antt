@@ -7,7 +7,7 @@ use Rattle.std.proofs.Math.ListN.{drop_of_length-le}
 use Rattle.office.specs.Jobs.{granted, AreStretches, HasSwitches}
 use Rattle.office.specs.declared.stretches.Stretch.{Stretch}
 use Rattle.sqlite.specs.Order.{Row}
-use Rattle.ledger.specs.Standing.{stretch_row}
+use Rattle.office_tables.specs.Standing.{stretch_row}
 use Rattle.ledger_tables.specs.Tables as row
 use Rattle.job_checks.specs.Tables.{rows_of}
 use Rattle.job_checks.proofs.PlacedLemmas.{placed_from, placed_more}

@@ -6,7 +6,7 @@ use Rattle.sqlite.specs.Held.{Held, state}
 use Rattle.sqlite.specs.View.{IsClean}
 use Rattle.sqlite_trees.specs.declared.store.Store.{Ghosts}
 use Rattle.std.specs.List.{AllZip}
-use Rattle.ledger.specs.Standing.{Rows}
+use Rattle.office_tables.specs.Standing.{Rows}
 use Rattle.ledger_tables.specs.declared.faults.Fault.{Fault}
 use Rattle.job_checks.specs.Kept.{AreKept}
 use Rattle.job_checks.specs.Reports.{AreNamed, HasNoDifference, StandsFor, Tells}

@@ -13,7 +13,7 @@ use Rattle.sqlite.specs.Order.{Row, column}
 use Rattle.sqlite.specs.Tree.{Trees}
 use Rattle.sqlite.specs.declared.types.Value.TheVariants.{Blob, Int, Text}
 use Rattle.ledger_tables.specs.Tables.{job_row}
-use Rattle.ledger.specs.Standing.{named, CanBeKept}
+use Rattle.office_tables.specs.Standing.{named, CanBeKept}
 use Rattle.office.specs.Numbers.{kind_number}
 use Rattle.job_checks.specs.Kept.{IsKept, IsNamed}
 use Rattle.job_checks.specs.Outcomes.{IsAsItRan}

@@ -20,7 +20,7 @@ use Rattle.ledger_tables.specs.Schema.{own_version}
 use Rattle.ledger_tables.specs.Cells.{unless_blank}
 use Rattle.ledger_tables.specs.Tables as row
 use Rattle.ledger_tables.specs.Tables.{job_row, placed}
-use Rattle.ledger.specs.Standing.{named, stretch_row, CanBeKept}
+use Rattle.office_tables.specs.Standing.{named, stretch_row, CanBeKept}
 use Rattle.job_checks.specs.Tables.{TableRows, WholeTables, pages_from, placed_some, rows_of}
 
 module _ (customer : List ℕ) (number : ℕ) where

@@ -6,7 +6,7 @@ use Rattle.office.specs.Office.{Entry, Office}
 use Rattle.sqlite.specs.Effect.{Database}
 use Rattle.sqlite.specs.Order.{Row}
 use Rattle.sqlite.specs.Tree.{Trees}
-use Rattle.ledger.specs.Standing.{Rows}
+use Rattle.office_tables.specs.Standing.{Rows}
 use Rattle.job_checks.specs.Jobs.{RunsIn}
 use Rattle.job_checks.specs.Kept.{IsNamed}
 use Rattle.job_checks.specs.Outcomes.{IsAsItRan}

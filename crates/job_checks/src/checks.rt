@@ -1,6 +1,7 @@
 //! The check of all tables.
 
 ghost use Rattle.std.specs.Prelude.{◌≡◌, ◌++◌, ◌∷◌, ◌↔◌, [], Result, IfErr, IfOk, IsOkAnd};
+ghost use Rattle.ledger_tables.specs.Schema.{bureau_schema};
 ghost use Rattle.job_checks.specs.{
   Checks.{FindsAlone, HasReported},
   Kept.{version_row},
@@ -13,6 +14,7 @@ use crate::schemas::{SchemaDifference, compare_schema};
 use crate::walks::{EachJob, Walked, each_job};
 use ledger_tables::Fault;
 use sqlite::{Alter, Connection};
+use sqlite_schema::schema::Schema;
 use std::alloc::{AllocError, Global};
 
 /// What is told of the jobs that were taken.
@@ -76,11 +78,16 @@ fn report_walked(
 /// handed back. No difference is told exactly where the file holds an office whose jobs have names
 /// that jobs may have, and then the report tells of each of its jobs. Fails with 1 if there is no
 /// memory, and with 2 if the store fails, or cannot be read since its schema is not a bureau's.
-pub fn check<S: Alter + Drop>(alloc: Global, conn: Connection<S>) -> (Result<Report, Fault>, S)
+pub fn check<S: Alter + Drop>(
+    alloc: Global,
+    conn: Connection<S>,
+    own: &Schema,
+) -> (Result<Report, Fault>, S)
+    requires { own.now ≡ bureau_schema }
     ensures exact { FindsAlone S.Store conn result.1 result.0 }
     ensures left { LeavesNoMore S.Store conn result.1 }
 {
-    let schema = compare_schema(alloc, conn.schema());
+    let schema = compare_schema(alloc, conn.schema(), own);
     let mut reports = Reports {
         alloc,
         reports: Vec::new(alloc),

@@ -6,7 +6,7 @@ ghost use Rattle.std.specs.{
 };
 ghost use Rattle.core_store.specs.{Pages.{cells_of}, Storage.{largest_size}};
 ghost use Rattle.machine.specs.{Ranges.{IsInRange}, Run.{lines_of}};
-ghost use Rattle.ledger.specs.Standing.{stretch_row as stretch_cells};
+ghost use Rattle.office_tables.specs.Standing.{stretch_row as stretch_cells};
 ghost use Rattle.ledger_rows.specs.{
   Columns.{HoldsCharacters, IsLine, line_cells},
   Pockets.{IsPunched, pocket_cell},

@@ -4,7 +4,7 @@ ghost use Rattle.std.specs.Prelude.{◌≡◌, pos, string_bytes, true, IfOk};
 ghost use Rattle.machine.specs.Ranges.{IsInRange};
 ghost use Rattle.office.specs.{Jobs.{loaded_deck, picture}, Kept.{kept_of, summary_of}};
 ghost use Rattle.texts.specs.Names.{is_customer, is_number};
-ghost use Rattle.ledger.specs.Standing.{CanBeKept};
+ghost use Rattle.office_tables.specs.Standing.{CanBeKept};
 ghost use Rattle.job_checks.specs.{Jobs.{HasComeTo, entry_of}, Reports.{Tells}};
 
 use crate::reports::{JobReport, Outcome};

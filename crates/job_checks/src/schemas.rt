@@ -1,14 +1,11 @@
 //! The schema of a file, compared with a bureau's.
 
 ghost use Rattle.std.specs.{Prelude.{◌≡◌, ◌↔◌, [], IfOk, IfSome, IsNone}, List.{AllByRecursion}};
-ghost use Rattle.sqlite.specs.{Held.{state}, Steps.{over_memory}};
 ghost use Rattle.ledger_tables.specs.Schema.{bureau_schema};
 ghost use Rattle.job_checks.specs.Schemas.{HasNoTerms, IsSame, IsIndexOf, IsTableOf, IsTold, IsViewOf};
 
 use crate::alike::{Unlike, first_unlike};
-use ledger::Bureau;
 use ledger_tables::Fault;
-use sqlite::{Connection, MemStore};
 use sqlite_items::Items;
 use sqlite_schema::schema::{Index, Schema, Table, View};
 use sqlite_value::value::Bytes;
@@ -103,27 +100,17 @@ pub(crate) fn find_other(
     first_view(alloc, &schema.views)
 }
 
-/// A bureau without jobs, in memory.
-fn own_connection(alloc: Global) -> Result<Connection<MemStore>, Fault>
-    ensures { IfOk result (λ conn. (state over_memory conn).now.schema ≡ bureau_schema) }
-{
-    let empty = Connection::open_in_memory(alloc)?;
-    match Bureau::create(alloc, empty) {
-        Ok(bureau) => Ok(bureau.into_connection()),
-        Err((fault, _)) => Err(fault),
-    }
-}
-
-/// How a file's schema first differs from a bureau's, if it does. Fails with 1 if there is no
+/// How a file's schema first differs from a bureau's `own`, if it does. Fails with 1 if there is no
 /// memory.
 pub(crate) fn compare_schema(
     alloc: Global,
     schema: &Schema,
+    own: &Schema,
 ) -> Result<Option<SchemaDifference>, Fault>
+    requires { own.now ≡ bureau_schema }
     ensures none { IfOk result (λ it. IsNone it ↔ (schema.now ≡ bureau_schema)) }
     ensures told { IfOk result (λ it. IfSome it (IsTold schema.now bureau_schema)) }
 {
-    let own = own_connection(alloc)?;
-    let found = find_other(alloc, schema, own.schema())?;
+    let found = find_other(alloc, schema, own)?;
     Ok(found)
 }

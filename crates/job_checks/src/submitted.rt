@@ -3,7 +3,7 @@
 ghost use Rattle.std.specs.Prelude.{◌≡◌, ◌<◌, ◌^◌, ℕ, List, pos, Bool, IfErr, IfOk, IfSome, Ok, Some};
 ghost use Rattle.cards.specs.{Decks.{IsDeck, deck_bytes}, declared.decks.Card.{Card}};
 ghost use Rattle.core_store.specs.Storage.{positions_of};
-ghost use Rattle.ledger.specs.Standing.{named, stretch_row as stretch_cells};
+ghost use Rattle.office_tables.specs.Standing.{named, stretch_row as stretch_cells};
 ghost use Rattle.office.specs.Numbers.{kind_number};
 ghost use Rattle.job_checks.specs.{
   Jobs.{numbers_of, row_of},

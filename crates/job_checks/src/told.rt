@@ -1,7 +1,7 @@
 //! A job that is told, and is in no rows: it is run again.
 
 ghost use Rattle.std.specs.Prelude.{◌≡◌, All, IfErr, IfOk, true};
-ghost use Rattle.ledger.specs.Standing.{CanBeKept};
+ghost use Rattle.office_tables.specs.Standing.{CanBeKept};
 ghost use Rattle.ledger_rows.specs.{Columns.{HoldsCharacters, IsLine}, Pockets.{IsPunched}};
 ghost use Rattle.machine.specs.Run.{lines_of};
 ghost use Rattle.texts.specs.Names.{is_customer, is_number};

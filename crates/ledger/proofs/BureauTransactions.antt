@@ -16,7 +16,7 @@ use Rattle.ledger_tables.specs.Steps.{Frames, HasFailed}
 use Rattle.office.specs.Office.{Office}
 use Rattle.ledger.specs.Adopting.{IsUntouched, begun}
 use Rattle.ledger.specs.Replying.{LacksRoom}
-use Rattle.ledger.specs.Standing.{Rows, StandsIn, LeftAs, Stands}
+use Rattle.office_tables.specs.Standing.{Rows, StandsIn, LeftAs, Stands}
 
 -- the trees alone tell the office
 pub left_as : (db : Database) (office : Office) → Rows db office → LeftAs db.trees office

@@ -24,7 +24,7 @@ use Rattle.ledger_tables.proofs.OpeningVersion.{plain_in, shown_understood, vers
 use Rattle.ledger.specs.Adopting.{IsUntouched}
 use Rattle.ledger.specs.Migrating.{as_opened, IsRaisedFrom, IsToldFrom, IsVersionOf}
 use Rattle.ledger.specs.Older.{FirstRows, LeftOf, RowsOf, SecondRows, StandsOf, ThirdRows}
-use Rattle.ledger.specs.Standing.{LeftAs, Rows, Stands}
+use Rattle.office_tables.specs.Standing.{LeftAs, Rows, Stands}
 use Rattle.ledger.proofs.BureauTransactions.{left_as}
 
 -- ---- the version that was found

@@ -19,7 +19,7 @@ use Rattle.units.specs.Switches.{seven}
 use Rattle.units.specs.declared.switches.Switches.{Switches}
 use Rattle.ledger.specs.Earlier.{kept_alone, with_outputs_of, HasCounted}
 use Rattle.ledger.specs.Saving.{job_in, IsAfter}
-use Rattle.ledger.proofs.ReadingLemmas.{picture_before}
+use Rattle.office_tables.proofs.ReadingLemmas.{picture_before}
 use Rattle.ledger.proofs.Replies.{ActOnPictures, KeepJobs}
 
 module _ (old : Job) where

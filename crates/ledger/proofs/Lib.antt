@@ -13,7 +13,6 @@ pub mod StateRows
 pub mod PageMixes
 pub mod OneOfficeLaw
 pub mod ReadFaults
-pub mod ReadingLemmas
 pub mod Replies
 pub mod SavingLemmas
 pub mod SavingPockets

@@ -29,11 +29,11 @@ use Rattle.ledger_tables.specs.Reading.{AreReadable, CanRead}
 use Rattle.ledger_tables.specs.Shown.{shown_line, shown_name, shown_progress}
 use Rattle.ledger_tables.specs.Steps.{HasFailed}
 use Rattle.ledger.specs.Listed.{AreListable, CanBeListed}
-use Rattle.ledger.specs.Standing.{lines_of, named, pockets_of, state_of, tables_of}
+use Rattle.office_tables.specs.Standing.{lines_of, named, pockets_of, state_of, tables_of}
 use Rattle.bcd.proofs.Orders.{all_ordered, all_weaker}
 use Rattle.ledger.proofs.ListLemmas.{all_filtered, each_running, names_told}
 use Rattle.ledger.proofs.ReadFaults.{failed_later, failed_unless, standing_fits, truth_fits}
-use Rattle.ledger.proofs.ReadingLemmas.{picture_before, picture_deck}
+use Rattle.office_tables.proofs.ReadingLemmas.{picture_before, picture_deck}
 
 -- ---- one step after another
 

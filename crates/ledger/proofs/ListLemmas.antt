@@ -30,9 +30,9 @@ use Rattle.ledger_tables.specs.Listed as listed
 use Rattle.ledger_tables.specs.Tables.{NamedJob, AreDistinct, is_job, job_named}
 use Rattle.ledger_tables.specs.declared.rows.StateRow.{StateRow}
 use Rattle.ledger.specs.Listed.{IsHis, IsIts}
-use Rattle.ledger.specs.Standing.{named, state_of, tables_of}
+use Rattle.office_tables.specs.Standing.{named, state_of, tables_of}
 use Rattle.ledger.proofs.Offices.{part_found}
-use Rattle.ledger.proofs.ReadingLemmas.{some_is}
+use Rattle.office_tables.proofs.ReadingLemmas.{some_is}
 
 -- ---- what holds of all of a list
 

@@ -20,7 +20,7 @@ use Rattle.ledger_tables.proofs.InsertLast.{name_is, name_yes}
 use Rattle.ledger.specs.Listed.{IsIts}
 use Rattle.ledger.specs.Older.{HasWhole, all_pages_of, second_tables_of, storage_of, storages_of, with_first_pages}
 use Rattle.ledger.specs.Saving.{with_storage}
-use Rattle.ledger.specs.Standing.{named, pages_of, state_of, tables_of}
+use Rattle.office_tables.specs.Standing.{named, pages_of, state_of, tables_of}
 use Rattle.ledger.proofs.SavingJobs.{told_behind}
 use Rattle.ledger.proofs.SavingLemmas.{told_of}
 

@@ -19,8 +19,8 @@ use Rattle.units.specs.declared.pockets.Pocket.{Pocket}
 use Rattle.units.specs.declared.profiles.Profile.{Profile}
 use Rattle.units.specs.declared.punch.Punched.{Punched}
 use Rattle.ledger.specs.Older.{IsPlainJob}
-use Rattle.ledger.specs.Standing.{named, profile_of, pockets_of, tables_of}
-use Rattle.ledger.proofs.ReadingLemmas.{picture_plain}
+use Rattle.office_tables.specs.Standing.{named, profile_of, pockets_of, tables_of}
+use Rattle.office_tables.proofs.ReadingLemmas.{picture_plain}
 use Rattle.ledger.proofs.SavingLemmas.{same_tables}
 
 -- the profile row of such a job

@@ -9,7 +9,7 @@ use Rattle.office.specs.Kept.{Kept}
 use Rattle.office.specs.Office.{Entry, Office, is_entry, entry_of, job_of}
 use Rattle.office.specs.declared.stretches.Stretch.{Stretch}
 use Rattle.ledger.specs.Earlier.{kept_alone}
-use Rattle.ledger.specs.Standing.{CanBeKept, Rows, StandsIn, named, job_cells}
+use Rattle.office_tables.specs.Standing.{CanBeKept, Rows, StandsIn, named, job_cells}
 use Rattle.machine.specs.Earlier.{without_outputs}
 use Rattle.machine.specs.Run as run
 use Rattle.ledger_tables.specs.Cells.{JobCells}

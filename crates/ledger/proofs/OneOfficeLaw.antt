@@ -20,10 +20,10 @@ use Rattle.ledger_tables.specs.declared.rows.StretchRow.{StretchRow}
 use Rattle.units.specs.declared.profiles.Profile.{Profile}
 use Rattle.units.specs.declared.profiles.Profile.TheVariants.{Plain, Selecting}
 use Rattle.ledger.specs.Listed.{IsIts}
-use Rattle.ledger.specs.Standing.{named, stretch_row, stretches_of, profile_of, CanBeKept, Rows}
+use Rattle.office_tables.specs.Standing.{named, stretch_row, stretches_of, profile_of, CanBeKept, Rows}
 use Rattle.office.specs.Numbers.{kind_number}
 use Rattle.ledger.proofs.ListLemmas.{all_its}
-use Rattle.ledger.proofs.ReadingLemmas.{picture_profile, some_is, stretches_told}
+use Rattle.office_tables.proofs.ReadingLemmas.{picture_profile, some_is, stretches_told}
 
 -- ---- columns that tell one thing from another
 

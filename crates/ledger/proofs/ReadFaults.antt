@@ -47,7 +47,7 @@ use Rattle.ledger_tables.specs.Reading.{AreReadable, CanRead}
 use Rattle.ledger_tables.specs.Shown.{shown_job, shown_loaded, shown_profile, shown_state, shown_stretch}
 use Rattle.ledger_tables.specs.Steps.{HasFailed}
 use Rattle.ledger_tables.specs.Tables.{NamedJob, job_named}
-use Rattle.ledger.specs.Standing.{CanBeKept, named, pages_of, profile_of, state_of, stretch_row, stretches_of}
+use Rattle.office_tables.specs.Standing.{CanBeKept, named, pages_of, profile_of, state_of, stretch_row, stretches_of}
 use Rattle.office.specs.Numbers.{kind_number}
 use Rattle.ledger.proofs.Offices.{job_is, part_found, row_found}
 

@@ -16,7 +16,7 @@ use Rattle.office.specs.declared.replies.Reply.{Reply}
 use Rattle.office.specs.declared.replies.Reply.TheVariants.{Taken, Refused}
 use Rattle.sqlite.specs.State.{State}
 use Rattle.ledger_tables.specs.Tables as tables
-use Rattle.ledger.specs.Standing.{StandsIn, Served, named}
+use Rattle.office_tables.specs.Standing.{StandsIn, Served, named}
 use Rattle.ledger.proofs.SavingChanges.{same_job}
 
 -- ---- submissions

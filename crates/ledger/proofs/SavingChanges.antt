@@ -28,8 +28,8 @@ use Rattle.units.specs.declared.profiles.Profile.{Profile}
 use Rattle.units.specs.declared.punch.Punched.{Punched}
 use Rattle.units.specs.declared.switches.Switches.{Switches}
 use Rattle.ledger.specs.Earlier.{kept_alone, with_outputs_of, HasCounted}
-use Rattle.ledger.specs.Standing.{named, job_cells, stretch_row, stretches_of, state_of, pages_of, cards_of, profile_of, pockets_of, tables_of, CanBeKept, Rows, StandsIn}
-use Rattle.ledger.specs.Standing as standing
+use Rattle.office_tables.specs.Standing.{named, job_cells, stretch_row, stretches_of, state_of, pages_of, cards_of, profile_of, pockets_of, tables_of, CanBeKept, Rows, StandsIn}
+use Rattle.office_tables.specs.Standing as standing
 use Rattle.ledger.proofs.Offices.{job_is}
 use Rattle.ledger.proofs.StateRows.{row_behind}
 use Rattle.ledger.proofs.SavingLemmas.{at_job_same, told_of, same_tables, is_other}

@@ -9,7 +9,7 @@ use Rattle.sqlite.specs.Effect.{Database}
 use Rattle.ledger_tables.specs.Tables.{NamedJob, AreDistinct, Holds, is_job, flagged, with_flags}
 use Rattle.ledger_tables.proofs.InsertLast.{name_is}
 use Rattle.ledger.specs.Saving.{flagged_job}
-use Rattle.ledger.specs.Standing.{named, stretches_of, state_of, pages_of, cards_of, lines_of, profile_of, pockets_of, tables_of, CanBeKept, Rows}
+use Rattle.office_tables.specs.Standing.{named, stretches_of, state_of, pages_of, cards_of, lines_of, profile_of, pockets_of, tables_of, CanBeKept, Rows}
 use Rattle.ledger.proofs.SavingChanges.{all_with}
 use Rattle.ledger.proofs.Offices.{job_is}
 use Rattle.ledger.proofs.SavingLemmas.{same_tables, told_of}

@@ -25,12 +25,12 @@ use Rattle.ledger_rows.specs.Columns.{state_row, profile_row, line_cells, truth,
 use Rattle.ledger_rows.specs.Pages.{rows_of}
 use Rattle.ledger_rows.specs.Pockets.{pocket_rows_of, punched_bytes, IsPunched}
 use Rattle.ledger.specs.Saving.{new_cells}
-use Rattle.ledger.specs.Standing.{named, job_cells, stretch_row, stretches_of, state_of, pages_of, cards_of, profile_of, pockets_of, tables_of, CanBeKept, Rows}
+use Rattle.office_tables.specs.Standing.{named, job_cells, stretch_row, stretches_of, state_of, pages_of, cards_of, profile_of, pockets_of, tables_of, CanBeKept, Rows}
 use Rattle.office.specs.Numbers.{kind_number}
-use Rattle.ledger.specs.Standing as standing
+use Rattle.office_tables.specs.Standing as standing
 use Rattle.units.specs.Switches.{seven}
 use Rattle.ledger_tables.proofs.InsertLast.{name_is, name_yes, all_push}
-use Rattle.ledger.proofs.ReadingLemmas.{picture_deck}
+use Rattle.office_tables.proofs.ReadingLemmas.{picture_deck}
 use Rattle.ledger.proofs.SavingLemmas.{at_job_same, told_of, same_tables}
 
 -- no row has the name of a job that there is not

@@ -14,7 +14,7 @@ use Rattle.ledger_tables.specs.declared.rows.StretchRow.{StretchRow}
 use Rattle.office.specs.Jobs.{Job, granted_more}
 use Rattle.office.specs.Office.{Entry, Office, job_of, is_entry}
 use Rattle.office.specs.declared.stretches.Stretch.{Stretch}
-use Rattle.ledger.specs.Standing.{stretch_row}
+use Rattle.office_tables.specs.Standing.{stretch_row}
 use Rattle.ledger_tables.proofs.InsertLast.{name_is, name_yes}
 
 -- ---- what holds where nothing failed

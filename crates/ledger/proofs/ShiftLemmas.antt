@@ -13,7 +13,7 @@ use Rattle.sqlite.specs.Tree.{Trees}
 use Rattle.ledger_tables.specs.Schema.{bureau_schema}
 use Rattle.ledger_tables.specs.declared.faults.Fault.{Fault}
 use Rattle.ledger_tables.specs.declared.faults.Fault.TheVariants.{NoMemory, Store}
-use Rattle.ledger.specs.Standing.{Rows, LeftAs}
+use Rattle.office_tables.specs.Standing.{Rows, LeftAs}
 use Rattle.ledger.specs.Meters.{RisenWithin, attempted_by_all}
 use Rattle.ledger.specs.Shifting.{limit_of_all, LeavesWhole}
 use Rattle.ledger.specs.WholeRows.{HaveWholeRows}

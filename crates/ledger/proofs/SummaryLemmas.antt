@@ -20,7 +20,7 @@ use Rattle.ledger_tables.specs.Tables.{AreDistinct}
 use Rattle.ledger_rows.specs.Progress.{progress_of}
 use Rattle.ledger.specs.Saving.{flagged_job}
 use Rattle.sqlite.specs.State.{State}
-use Rattle.ledger.specs.Standing.{named, StandsIn, Served}
+use Rattle.office_tables.specs.Standing.{named, StandsIn, Served}
 use Rattle.ledger.proofs.Replies.{command_done}
 use Rattle.ledger.proofs.SavingChanges.{same_job, unchanged_saved}
 

@@ -9,7 +9,7 @@ use Rattle.office.specs.Office.{Entry, Office}
 use Rattle.sqlite.specs.Effect.{Database}
 use Rattle.ledger_tables.specs.Tables.{Holds, placed, card_row, line_row, pocket_row}
 use Rattle.ledger.specs.Listed.{IsIts}
-use Rattle.ledger.specs.Standing.{CanBeKept, Rows, tables_of, cards_of, lines_of, pockets_of}
+use Rattle.office_tables.specs.Standing.{CanBeKept, Rows, tables_of, cards_of, lines_of, pockets_of}
 use Rattle.ledger.proofs.ListLemmas.{all_its}
 use Rattle.ledger.specs.WholeRows.{RunMakes, HasWholeRows, HaveWholeRows}
 

@@ -14,7 +14,7 @@ use Rattle.sqlite.specs.View.{doubt}
 use Rattle.sqlite_trees.specs.declared.store.Store.{Ghosts}
 use Rattle.ledger_tables.specs.declared.faults.Fault.{Fault}
 use Rattle.ledger_tables.specs.declared.faults.Fault.TheVariants.{NoMemory, Store}
-use Rattle.ledger.specs.Standing.{Rows, Stands, LeftAs}
+use Rattle.office_tables.specs.Standing.{Rows, Stands, LeftAs}
 use Rattle.ledger.specs.Shifting.{LeavesWhole, StandsAfter, LeavesBeginning}
 use Rattle.ledger.specs.Working.{AreRepliesTo, Continues, HasWorked, IsEndOf, Works, carried_out}
 use Rattle.ledger.specs.WholeRows.{HaveWholeRows}

@@ -13,7 +13,7 @@ use Rattle.ledger_tables.specs.declared.faults.Fault.TheVariants as fault
 use Rattle.ledger_tables.specs.declared.openings.OpenFault.{OpenFault}
 use Rattle.ledger_tables.specs.declared.openings.OpenFault.TheVariants.{Store}
 use Rattle.office.specs.Office.{Office}
-use Rattle.ledger.specs.Standing.{Stands}
+use Rattle.office_tables.specs.Standing.{Stands}
 use Rattle.ledger.specs.declared.bureau.Bureau.{Bureau}
 
 -- a call that left all as it was: what an open connection sees, what was last committed, whether a

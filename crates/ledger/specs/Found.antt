@@ -24,7 +24,7 @@ use Rattle.ledger_tables.specs.Cells.{JobCells, LoadedCells}
 use Rattle.ledger_tables.specs.Listed.{loaded_row}
 use Rattle.ledger.specs.declared.reading.Handed.{Handed}
 use Rattle.ledger.specs.Earlier.{kept_alone}
-use Rattle.ledger.specs.Standing.{job_cells}
+use Rattle.office_tables.specs.Standing.{job_cells}
 
 -- these are the deck, the switches, the punch and the lines of this machine
 pub record IsMediaOf (media : Media) (m : State) : Type 0 where

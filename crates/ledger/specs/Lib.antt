@@ -5,7 +5,7 @@ pub mod Listed
 pub mod Replying
 pub mod Saving
 pub mod Serving
-pub mod Standing
+pub use Rattle.office_tables.specs.Standing
 pub mod Steps
 pub mod Adopting
 pub mod WholeRows

@@ -9,7 +9,7 @@ use Rattle.office.specs.declared.replies.Reply.TheVariants as reply
 use Rattle.ledger_tables.specs.Cells.{QueuedName}
 use Rattle.ledger_tables.specs.Listed.{name_row, queued_name}
 use Rattle.ledger_tables.specs.declared.rows.NameRow.{NameRow}
-use Rattle.ledger.specs.Standing.{named}
+use Rattle.office_tables.specs.Standing.{named}
 
 -- the entry's name can be read from a row: its customer is a text, and its number has 32 bits
 abbrev pub CanBeListed : Entry → Type 0

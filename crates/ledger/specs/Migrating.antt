@@ -27,7 +27,7 @@ use Rattle.ledger.specs.Adopting.{IsUntouched, begun}
 use Rattle.ledger.specs.Listed.{IsIts}
 use Rattle.ledger.specs.Older.{storages_of, with_first_pages, HasWhole, LeftOf, RowsOf, StandsOf}
 use Rattle.ledger.specs.Saving.{with_storage}
-use Rattle.ledger.specs.Standing.{CanBeKept, LeftAs, Rows, Stands, named}
+use Rattle.office_tables.specs.Standing.{CanBeKept, LeftAs, Rows, Stands, named}
 
 -- the connection was open and its tables can be asked for their version; and if their schema is a
 -- bureau's, they hold this one alone, and were only read

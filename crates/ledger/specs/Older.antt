@@ -18,7 +18,7 @@ use Rattle.ledger_tables.specs.Tables.{paged}
 use Rattle.units.specs.declared.profiles.Profile.TheVariants.{Plain}
 use Rattle.texts.specs.declared.names.JobName.{JobName}
 use Rattle.ledger.specs.Saving.{HasNoPages}
-use Rattle.ledger.specs.Standing.{CanBeKept, Rows, tables_of, pages_of}
+use Rattle.office_tables.specs.Standing.{CanBeKept, Rows, tables_of, pages_of}
 
 -- the job's machine has no stacker selection, as before version 4
 abbrev pub IsPlainJob : Job → Type 0

@@ -13,7 +13,7 @@ use Rattle.ledger_tables.specs.Steps.{HasFailed}
 use Rattle.office.specs.Meters.{RisenAtMost}
 use Rattle.office.specs.Office.{Office}
 use Rattle.office.specs.declared.replies.Reply.{Reply}
-use Rattle.ledger.specs.Standing.{Stands, LeftAs}
+use Rattle.office_tables.specs.Standing.{Stands, LeftAs}
 
 module _ {S : Type 0} (g : Ghosts S) (old new : Held S) where
   -- on Ok, if the tables represented an office, they represent the office after the change, and the

@@ -27,7 +27,7 @@ use Rattle.units.specs.declared.punch.Punched.{Punched}
 use Rattle.units.specs.declared.units.Units.{Units}
 use Rattle.ledger.specs.Earlier.{kept_alone, with_outputs_of, HasCounted}
 use Rattle.ledger.specs.declared.earlier_machine.EarlierMachine.{EarlierMachine}
-use Rattle.ledger.specs.Standing.{stretch_row}
+use Rattle.office_tables.specs.Standing.{stretch_row}
 use Rattle.office.specs.Numbers.{kind_number}
 
 -- the job's card rows are those of these cards, as many as were made before

@@ -10,7 +10,7 @@ use Rattle.sqlite_trees.specs.declared.store.Store.{Ghosts}
 use Rattle.ledger_tables.specs.Schema.{bureau_schema}
 use Rattle.ledger_tables.specs.declared.faults.Fault.{Fault}
 use Rattle.ledger_tables.specs.declared.faults.Fault.TheVariants.{Store}
-use Rattle.ledger.specs.Standing.{Stands, LeftAs}
+use Rattle.office_tables.specs.Standing.{Stands, LeftAs}
 use Rattle.ledger.specs.Meters.{RisenWithin, attempted_by_all}
 use Rattle.ledger.specs.WholeRows.{HaveWholeRows}
 use Rattle.ledger.specs.declared.outcomes.Shift.{Shift}

@@ -12,7 +12,7 @@ use Rattle.office.specs.Meters.{RisenAtMost}
 use Rattle.office.specs.Office.{Office}
 use Rattle.office.specs.declared.replies.Reply.{Reply}
 use Rattle.ledger.specs.Saving.{job_in}
-use Rattle.ledger.specs.Standing.{StandsIn, Served}
+use Rattle.office_tables.specs.Standing.{StandsIn, Served}
 
 module _ {S : Type 0} (g : Ghosts S) where
   -- on Ok, if the tables represented an office, they represent the same one, and what was read is

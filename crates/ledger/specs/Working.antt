@@ -10,7 +10,7 @@ use Rattle.sqlite_trees.specs.declared.store.Store.{Ghosts}
 use Rattle.ledger_tables.specs.declared.faults.Fault.{Fault}
 use Rattle.ledger_tables.specs.declared.faults.Fault.TheVariants.{NoMemory, Store}
 use Rattle.ledger.specs.Shifting.{LeavesWhole}
-use Rattle.ledger.specs.Standing.{Stands}
+use Rattle.office_tables.specs.Standing.{Stands}
 
 -- the commands of a list that were carried out: those that were acknowledged, and the one that met
 -- fault 2, of which nobody knows whether it is kept; one that met fault 1 changed nothing

@@ -11,7 +11,7 @@ use Rattle.sqlite.specs.Recovery.{Image}
 use Rattle.sqlite.specs.Tree.{Trees}
 use Rattle.sqlite.specs.View.{IsClean}
 use Rattle.office.specs.Office.{Office}
-use Rattle.ledger.specs.Standing.{LeftAs}
+use Rattle.office_tables.specs.Standing.{LeftAs}
 use Rattle.ledger_tables.specs.declared.openings.OpenFault.{OpenFault}
 use Rattle.ledger_files.specs.Closing.{HindersClosing, HindersEnding, StandsAlone}
 use Rattle.ledger_files.specs.Opening.{AreOf}

@@ -20,7 +20,7 @@ use Rattle.office.specs.Office.{Office}
 use Rattle.office.specs.declared.commands.Command.{Command}
 use Rattle.office.specs.declared.replies.Reply.{Reply}
 use Rattle.ledger.specs.Older.{LeftOf}
-use Rattle.ledger.specs.Standing.{LeftAs}
+use Rattle.office_tables.specs.Standing.{LeftAs}
 use Rattle.ledger_tables.specs.declared.openings.OpenFault.{OpenFault}
 use Rattle.ledger_files.specs.Migrating.{AreNotMigrated, AreOfVersion, IsMigration}
 use Rattle.ledger_files.specs.Opening.{AreOf, AreRefused, AreStoredWith, HoldsOnly}

@@ -16,7 +16,7 @@ use Rattle.sqlite.specs.WalFiles.{outcomes}
 use Rattle.sqlite_wal.specs.Reads.{AreClean}
 use Rattle.office.specs.Office.{Office}
 use Rattle.ledger.specs.Older.{LeftOf}
-use Rattle.ledger.specs.Standing.{LeftAs, Stands}
+use Rattle.office_tables.specs.Standing.{LeftAs, Stands}
 use Rattle.ledger_files.specs.Closing.{StandsAlone}
 use Rattle.ledger_files.specs.Migrating.{AreOfVersion, IsMidway, IsMigrated, IsMigration}
 use Rattle.ledger_files.specs.Opening.{AreOf}

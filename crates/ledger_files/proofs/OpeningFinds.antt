@@ -10,7 +10,7 @@ use Rattle.ledger_tables.specs.Schema.{bureau_schema}
 use Rattle.office.specs.Office.{Office}
 use Rattle.ledger.specs.Adopting.{IsUntouched}
 use Rattle.ledger.specs.Older.{LeftOf, RowsOf, StandsOf, schema_of}
-use Rattle.ledger.specs.Standing.{Rows, LeftAs, Stands}
+use Rattle.office_tables.specs.Standing.{Rows, LeftAs, Stands}
 use Rattle.ledger_files.specs.Opening.{HoldsOnly}
 
 -- while the store is open, a crash leaves the last commit alone

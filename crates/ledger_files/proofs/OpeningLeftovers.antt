@@ -22,7 +22,7 @@ use Rattle.sqlite.specs.declared.file.Leftover.{Leftover}
 use Rattle.sqlite.specs.declared.file.Leftover.TheVariants as left
 use Rattle.sqlite.proofs.FileLemmas.{is_something}
 use Rattle.ledger.specs.Older.{LeftOf}
-use Rattle.ledger.specs.Standing.{LeftAs}
+use Rattle.office_tables.specs.Standing.{LeftAs}
 use Rattle.ledger_tables.proofs.OpeningAnswers.{known_answer}
 use Rattle.ledger_tables.specs.Versions.{IsKnown}
 use Rattle.ledger_files.proofs.ConnectingLemmas.{both}

@@ -19,7 +19,7 @@ use Rattle.office.specs.Office.{Office, fold, IsLeft}
 use Rattle.office.specs.declared.commands.Command.{Command}
 use Rattle.office.specs.declared.replies.Reply.{Reply}
 use Rattle.ledger.specs.Shifting.{LeavesWhole}
-use Rattle.ledger.specs.Standing.{LeftAs, Stands}
+use Rattle.office_tables.specs.Standing.{LeftAs, Stands}
 use Rattle.ledger.specs.Working.{HasWorked}
 use Rattle.ledger_files.specs.Closing.{StandsAlone}
 use Rattle.ledger_files.specs.Opening.{AreOf, IsAnswerFor}

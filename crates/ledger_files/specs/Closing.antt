@@ -12,7 +12,7 @@ use Rattle.sqlite.specs.WalFiles.{outcomes}
 use Rattle.sqlite.specs.declared.error.Error.{Error}
 use Rattle.sqlite_wal.specs.Reads.{AreClean}
 use Rattle.office.specs.Office.{Office}
-use Rattle.ledger.specs.Standing.{LeftAs}
+use Rattle.office_tables.specs.Standing.{LeftAs}
 use Rattle.ledger_tables.specs.declared.openings.OpenFault.{OpenFault}
 use Rattle.ledger_tables.specs.declared.openings.OpenFault.TheVariants.{Store}
 use Rattle.ledger_files.specs.Opening.{store_fault}

@@ -14,7 +14,7 @@ use Rattle.ledger_tables.specs.declared.openings.OpenFault.{OpenFault}
 use Rattle.ledger_tables.specs.declared.openings.OpenFault.TheVariants.{NoMemory, NotABureau}
 use Rattle.office.specs.Office.{Office}
 use Rattle.ledger.specs.Older.{LeftOf, StandsOf}
-use Rattle.ledger.specs.Standing.{LeftAs, Stands}
+use Rattle.office_tables.specs.Standing.{LeftAs, Stands}
 use Rattle.ledger_files.specs.Opening.{AreOf, AreStoredWith, HoldsOnly, IsAnswerFor, IsToldOf, LeftHolds}
 use Rattle.ledger_files.specs.declared.kept.Kept.{Kept}
 use Rattle.ledger_files.specs.declared.kept.Kept.TheVariants as kept

@@ -24,7 +24,7 @@ use Rattle.ledger.specs.Adopting.{IsTold}
 use Rattle.sqlite.specs.declared.file.Leftover.{Leftover}
 use Rattle.sqlite.specs.declared.file.Leftover.TheVariants as left
 use Rattle.office.specs.Office.{Office}
-use Rattle.ledger.specs.Standing.{LeftAs, Stands}
+use Rattle.office_tables.specs.Standing.{LeftAs, Stands}
 use Rattle.ledger_files.specs.Connecting.{FailsToConnect}
 use Rattle.ledger_files.specs.declared.kept.Kept.{Kept}
 use Rattle.ledger_files.specs.declared.kept.Kept.TheVariants as kept

@@ -18,7 +18,7 @@ use Rattle.office.specs.Office.{Office, fold, IsLeft}
 use Rattle.office.specs.declared.commands.Command.{Command}
 use Rattle.office.specs.declared.replies.Reply.{Reply}
 use Rattle.ledger.specs.Shifting.{LeavesWhole}
-use Rattle.ledger.specs.Standing.{Stands}
+use Rattle.office_tables.specs.Standing.{Stands}
 use Rattle.ledger_files.specs.Opening.{AreOf, IsAnswerFor}
 use Rattle.ledger_files.specs.declared.closed.Closed.{Closed}
 

@@ -12,7 +12,7 @@ ghost use Rattle.sqlite.specs.{
 };
 ghost use Rattle.sqlite_wal.specs.Reads.{AreClean};
 ghost use Rattle.office.specs.Office.{Office};
-ghost use Rattle.ledger.specs.Standing.{Stands};
+ghost use Rattle.office_tables.specs.Standing.{Stands};
 ghost use Rattle.ledger_tables.specs.Versions.{IsKnown};
 ghost use Rattle.ledger_files.specs.{
   Closing.{HindersClosing, StandsAlone},

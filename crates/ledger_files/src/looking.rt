@@ -3,7 +3,7 @@
 ghost use Rattle.std.specs.Prelude.{◌≡◌, OnErr, OnOk};
 ghost use Rattle.sqlite.specs.{Held.{state}, Tree.{Trees}, View.{IsClean}};
 ghost use Rattle.office.specs.Office.{Office};
-ghost use Rattle.ledger.specs.Standing.{LeftAs, Stands};
+ghost use Rattle.office_tables.specs.Standing.{LeftAs, Stands};
 
 use crate::kept::Kept;
 use crate::sources::Source;

@@ -7,7 +7,7 @@ ghost use Rattle.sqlite.specs.{
   State.{HasCleanDisk, IsLive, Opens},
   WalFiles.{image_at},
 };
-ghost use Rattle.ledger.specs.Standing.{Stands};
+ghost use Rattle.office_tables.specs.Standing.{Stands};
 ghost use Rattle.ledger_tables.specs.{Disks.{StaysClean}, Versions.{IsKnown}};
 ghost use Rattle.ledger_files.specs.Making.{AreEmpty, IsFirst, IsWithoutTables};
 

@@ -18,7 +18,7 @@ ghost use Rattle.office.specs.{
   declared.commands.Command.{Command},
   declared.replies.Reply.{Reply},
 };
-ghost use Rattle.ledger.specs.Standing.{Stands};
+ghost use Rattle.office_tables.specs.Standing.{Stands};
 ghost use Rattle.ledger_files.specs.{
   Closing.{HindersEnding, StandsAlone},
   Migrating.{IsMidway, IsMigration},

@@ -1,7 +1,7 @@
 use Rattle.std.proofs.Common.{List, refl, subst, sym, ℕ}
 use Rattle.ledger.proofs.WorkLemmas.{worked_so, worked_still}
 use Rattle.sqlite.specs.Held.{state}
-use Rattle.ledger.specs.Standing.{Stands}
+use Rattle.office_tables.specs.Standing.{Stands}
 use Rattle.exchanges.specs.Exchanges.{Comes}
 use Rattle.exchanges.proofs.exchanging.exchange.Goals as goal
 

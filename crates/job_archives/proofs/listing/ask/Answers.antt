@@ -1,7 +1,7 @@
 use Rattle.std.proofs.Common.{sym, ap, subst, ◌∙◌}
 use Rattle.sqlite.specs.Held.{state}
 use Rattle.office.specs.Office.{Office, job_of}
-use Rattle.ledger.specs.Standing.{Stands}
+use Rattle.office_tables.specs.Standing.{Stands}
 use Rattle.job_archives.proofs.AskedLemmas.{left_same, told_by}
 use Rattle.job_archives.proofs.listing.ask.Goals as goal
 

@@ -4,7 +4,7 @@ use Rattle.sqlite.specs.State.{HasCleanDisk}
 use Rattle.sqlite.specs.View.{doubt}
 use Rattle.office.specs.Office.{Office}
 use Rattle.ledger_tables.specs.Tables.{AreDistinct}
-use Rattle.ledger.specs.Standing.{Stands, named}
+use Rattle.office_tables.specs.Standing.{Stands, named}
 use Rattle.job_archives.specs.Lists.{AddsLines}
 use Rattle.job_archives.specs.Names.{name_row}
 use Rattle.job_archives.proofs.listing.list_named.Given as goal

@@ -1,7 +1,7 @@
 use Rattle.std.proofs.Common.{◌≡◌, false, IsTrue, sym, subst, rules}
 use Rattle.sqlite.specs.State.{HasCleanDisk, KeepsCommit}
 use Rattle.sqlite.specs.Held.{state}
-use Rattle.ledger.specs.Standing.{Stands, StandsIn}
+use Rattle.office_tables.specs.Standing.{Stands, StandsIn}
 use Rattle.ledger.proofs.BureauTransactions.{rolled_untouched}
 use Rattle.job_archives.proofs.NameReads.{left_before, names_read, open_if_shown, stands_settled, still_stands}
 use Rattle.job_archives.proofs.names.read_names.Goals as goal

@@ -1,6 +1,6 @@
 use Rattle.std.proofs.Common.{◌≡◌, ℕ, List, Ok, sym, ap, subst, ◌∙◌}
 use Rattle.office.specs.Jobs.{picture}
-use Rattle.ledger.proofs.ReadingLemmas.{picture_profile}
+use Rattle.office_tables.proofs.ReadingLemmas.{picture_profile}
 use Rattle.job_checks.specs.Jobs.{HasRunAs}
 use Rattle.job_checks.specs.Kept.{rows_of_profile, rows_of_stretches}
 use Rattle.job_checks.specs.Tables.{rows_of, tables_of}

@@ -1,7 +1,7 @@
 use Rattle.std.proofs.Common.{◌≡◌, ◌+◌, ℕ, get_or, ap, arith}
 use Rattle.office.proofs.JobMeters.{on_err}
 use Rattle.office.specs.declared.stretches.Stretch.{Stretch}
-use Rattle.ledger.specs.Standing.{stretch_row}
+use Rattle.office_tables.specs.Standing.{stretch_row}
 use Rattle.ledger_tables.specs.Tables as row
 use Rattle.job_checks.proofs.PlacedLemmas.{placed_fails, placed_step}
 use Rattle.job_checks.proofs.machines.check_stretches.Goals as goal

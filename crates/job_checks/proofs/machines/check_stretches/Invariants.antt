@@ -1,4 +1,4 @@
-use Rattle.ledger.specs.Standing.{stretch_row}
+use Rattle.office_tables.specs.Standing.{stretch_row}
 use Rattle.ledger_tables.specs.Tables as row
 use Rattle.job_checks.specs.Kept.{rows_of_stretches}
 use Rattle.job_checks.specs.Tables.{rows_of}

@@ -4,7 +4,7 @@ use Rattle.sqlite.specs.Held.{state}
 use Rattle.ledger_tables.specs.Making.{IsStopped, is_taken}
 use Rattle.ledger_tables.specs.Tables.{Holds, no_rows}
 use Rattle.ledger.specs.Adopting.{MakesNothing}
-use Rattle.ledger.specs.Standing.{StandsIn, Stands}
+use Rattle.office_tables.specs.Standing.{StandsIn, Stands}
 use Rattle.ledger.proofs.BureauTransactions.{committed_stands, kept_by, rolled_untouched}
 use Rattle.ledger.proofs.bureau.make.Goals as goal
 

@@ -5,7 +5,7 @@ use Rattle.sqlite.specs.Steps.{FailsToCommit}
 use Rattle.office.specs.Office.{served, attempted_by}
 use Rattle.ledger_tables.specs.Steps.{HasFailed}
 use Rattle.ledger.specs.Replying.{LacksRoom}
-use Rattle.ledger.specs.Standing.{StandsIn, Stands}
+use Rattle.office_tables.specs.Standing.{StandsIn, Stands}
 use Rattle.ledger.proofs.BureauTransactions.{committed_stands, commit_failed}
 use Rattle.ledger.proofs.bureau.transact.Goals as goal
 

@@ -7,7 +7,7 @@ use Rattle.ledger_tables.proofs.Stepping.{of_open, step_still, step_then, step_e
 use Rattle.ledger_tables.specs.Listed.{name_row}
 use Rattle.ledger_tables.specs.Steps.{seen}
 use Rattle.ledger.specs.Listed.{IsHis}
-use Rattle.ledger.specs.Standing.{named}
+use Rattle.office_tables.specs.Standing.{named}
 use Rattle.ledger.proofs.BureauResults.{store_passed}
 use Rattle.ledger.proofs.ListFaults.{failed_second}
 use Rattle.ledger.proofs.ListLemmas.{at_row}

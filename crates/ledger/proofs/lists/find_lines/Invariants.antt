@@ -5,7 +5,7 @@ use Rattle.ledger_tables.proofs.Stepping.{HasStepped}
 use Rattle.ledger_tables.specs.Listed.{name_row}
 use Rattle.ledger_tables.specs.Steps.{Inside}
 use Rattle.ledger.specs.Listed.{IsHis}
-use Rattle.ledger.specs.Standing.{named, StandsIn}
+use Rattle.office_tables.specs.Standing.{named, StandsIn}
 use Rattle.ledger.proofs.lists.find_lines.Given as goal
 
 abbrev pub invariant-loop-row : goal.invariant-loop-row

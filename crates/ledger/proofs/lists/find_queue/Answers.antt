@@ -6,7 +6,7 @@ use Rattle.ledger_tables.proofs.Stepping.{of_open, step_still, step_then, step_e
 use Rattle.ledger_tables.specs.Listed.{queued_name}
 use Rattle.ledger_tables.specs.Steps.{seen}
 use Rattle.ledger.specs.Listed.{IsIts}
-use Rattle.ledger.specs.Standing.{named}
+use Rattle.office_tables.specs.Standing.{named}
 use Rattle.ledger.proofs.BureauResults.{store_passed}
 use Rattle.ledger.proofs.ListFaults.{failed_second}
 use Rattle.ledger.proofs.ListLemmas.{at_row, passed_on}

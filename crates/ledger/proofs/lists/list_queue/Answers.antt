@@ -4,7 +4,7 @@ use Rattle.bcd.specs.Orders.{in_order}
 use Rattle.office.specs.declared.replies.Reply.TheVariants.{Queue}
 use Rattle.sqlite.specs.State.{HasCleanDisk}
 use Rattle.ledger_tables.specs.Steps.{seen}
-use Rattle.ledger.specs.Standing.{tables_of}
+use Rattle.office_tables.specs.Standing.{tables_of}
 use Rattle.ledger.proofs.BureauResults.{store_passed}
 use Rattle.ledger.proofs.ListFaults.{failed_second, running_read}
 use Rattle.ledger.proofs.ListLemmas.{all_running, free_running, running_told}

@@ -5,12 +5,12 @@ use Rattle.ledger_rows.specs.Columns.{truth}
 use Rattle.ledger_tables.specs.Cells.{LoadedCells, QueuedName}
 use Rattle.ledger_tables.specs.Listed.{loaded_row}
 use Rattle.ledger_tables.specs.Steps.{seen}
-use Rattle.ledger.specs.Standing.{tables_of}
+use Rattle.office_tables.specs.Standing.{tables_of}
 use Rattle.ledger.proofs.BureauResults.{store_passed}
 use Rattle.ledger.proofs.ListLemmas.{free_so, held_told, queued_is}
 use Rattle.ledger.proofs.Offices.{part_none, still}
 use Rattle.ledger.proofs.ReadFaults.{loaded_read, not_there}
-use Rattle.ledger.proofs.ReadingLemmas.{some_is}
+use Rattle.office_tables.proofs.ReadingLemmas.{some_is}
 use Rattle.ledger.proofs.lists.queue_free.Goals as goal
 
 pub returns-in_err-found-clause-failed : goal.returns-in_err-found-clause-failed

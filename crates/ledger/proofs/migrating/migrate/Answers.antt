@@ -6,7 +6,7 @@ use Rattle.ledger_tables.specs.declared.openings.OpenFault.TheVariants.{Store}
 use Rattle.ledger.specs.Adopting.{IsUntouched, begun}
 use Rattle.ledger.specs.Migrating.{IsToldFrom}
 use Rattle.ledger.specs.Older.{RowsOf}
-use Rattle.ledger.specs.Standing.{Rows, Stands}
+use Rattle.office_tables.specs.Standing.{Rows, Stands}
 use Rattle.ledger.proofs.BureauTransactions.{committed_stands, kept_by, rolled_untouched}
 use Rattle.ledger.proofs.BureauVersions.{left_in_either, stands_own, told_answer, told_unraised, untouched_stands}
 use Rattle.ledger.proofs.migrating.migrate.Goals as goal

@@ -6,7 +6,7 @@ use Rattle.ledger_tables.specs.Steps.{seen}
 use Rattle.ledger_tables.specs.Tables.{Holds}
 use Rattle.ledger_tables.proofs.Frames.{on_ok_then}
 use Rattle.ledger.specs.Older.{storages_of, with_first_pages}
-use Rattle.ledger.specs.Standing.{tables_of}
+use Rattle.office_tables.specs.Standing.{tables_of}
 use Rattle.ledger.proofs.MigratingPages.{all_first_pages}
 use Rattle.ledger.proofs.MigratingProfiles.{plain_tables}
 use Rattle.ledger.proofs.migrating.raise_first.Goals as goal

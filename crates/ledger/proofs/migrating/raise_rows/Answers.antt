@@ -8,7 +8,7 @@ use Rattle.ledger_tables.specs.Steps.{seen}
 use Rattle.ledger_tables.specs.Tables.{HoldsAs, pictured}
 use Rattle.ledger.specs.Listed.{IsIts}
 use Rattle.ledger.specs.Older.{storages_of}
-use Rattle.ledger.specs.Standing.{named}
+use Rattle.office_tables.specs.Standing.{named}
 use Rattle.ledger.proofs.ListLemmas.{all_its, at_row}
 use Rattle.ledger.proofs.MigratingPages.{as_many_pages}
 use Rattle.ledger.proofs.migrating.raise_rows.Goals as goal

@@ -6,7 +6,7 @@ use Rattle.ledger_tables.specs.Listed.{queued_name}
 use Rattle.ledger_tables.specs.Steps.{Inside}
 use Rattle.ledger_tables.specs.Tables.{HoldsAs, pictured}
 use Rattle.ledger.specs.Older.{storages_of, with_first_pages}
-use Rattle.ledger.specs.Standing.{named, CanBeKept}
+use Rattle.office_tables.specs.Standing.{named, CanBeKept}
 use Rattle.ledger.proofs.migrating.raise_rows.Given as goal
 
 abbrev pub invariant-loop-row : goal.invariant-loop-row

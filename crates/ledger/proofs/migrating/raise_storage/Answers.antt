@@ -5,7 +5,7 @@ use Rattle.ledger_tables.specs.Steps.{seen}
 use Rattle.ledger_tables.specs.Tables.{HoldsAs, pictured}
 use Rattle.ledger_tables.proofs.Frames.{on_ok_then}
 use Rattle.ledger.specs.Saving.{with_storage}
-use Rattle.ledger.proofs.ReadingLemmas.{ok_is, some_is}
+use Rattle.office_tables.proofs.ReadingLemmas.{ok_is, some_is}
 use Rattle.ledger.proofs.MigratingPages.{found_whole}
 use Rattle.ledger.proofs.migrating.raise_storage.Goals as goal
 

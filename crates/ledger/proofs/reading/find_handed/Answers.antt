@@ -1,7 +1,7 @@
 use Rattle.std.proofs.Common.{arith}
 use Rattle.sqlite.specs.State.{HasCleanDisk}
 use Rattle.ledger_tables.specs.Steps.{seen}
-use Rattle.ledger.specs.Standing.{tables_of}
+use Rattle.office_tables.specs.Standing.{tables_of}
 use Rattle.ledger.proofs.BureauResults.{store_passed}
 use Rattle.ledger.proofs.Offices.{job_is, row_found, row_none, still}
 use Rattle.ledger.proofs.ReadFaults.{failed_later, job_read}

@@ -6,12 +6,12 @@ use Rattle.ledger_tables.specs.Named.{ArePages}
 use Rattle.ledger_tables.specs.Steps.{seen}
 use Rattle.machine.specs.Earlier.{without_outputs}
 use Rattle.office.specs.Jobs.{picture}
-use Rattle.ledger.specs.Standing.{tables_of, state_of, pages_of}
+use Rattle.office_tables.specs.Standing.{tables_of, state_of, pages_of}
 use Rattle.ledger.proofs.BureauResults.{store_passed}
 use Rattle.ledger.proofs.Offices.{still, if_ok_then, job_is}
 use Rattle.ledger.proofs.ReadFaults.{failed_later, failed_unless, not_there, pages_read, state_read}
 use Rattle.ledger.proofs.StateRows.{row_alone}
-use Rattle.ledger.proofs.ReadingLemmas.{some_is, picture_deck, picture_size}
+use Rattle.office_tables.proofs.ReadingLemmas.{some_is, picture_deck, picture_size}
 use Rattle.ledger.proofs.reading.find_machine.Goals as goal
 
 pub returns-clause-found : goal.returns-clause-found

@@ -5,7 +5,7 @@ use Rattle.ledger_tables.specs.Cells.{LoadedCells}
 use Rattle.ledger.proofs.BureauResults.{store_passed}
 use Rattle.ledger.proofs.Offices.{job_is, kept_is}
 use Rattle.ledger.proofs.ReadFaults.{failed_later, failed_unless, is_there}
-use Rattle.ledger.proofs.ReadingLemmas.{some_is, picture_switches}
+use Rattle.office_tables.proofs.ReadingLemmas.{some_is, picture_switches}
 use Rattle.ledger.proofs.reading.find_parts.Goals as goal
 
 pub returns-clause-found : goal.returns-clause-found

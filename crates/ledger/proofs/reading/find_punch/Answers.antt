@@ -3,11 +3,11 @@ use Rattle.office.specs.Jobs.{picture}
 use Rattle.ledger_rows.specs.Columns.{profile_row}
 use Rattle.ledger_tables.specs.Steps.{seen}
 use Rattle.ledger.specs.Saving.{job_in}
-use Rattle.ledger.specs.Standing.{tables_of, profile_of}
+use Rattle.office_tables.specs.Standing.{tables_of, profile_of}
 use Rattle.ledger.proofs.BureauResults.{store_passed}
 use Rattle.ledger.proofs.Offices.{still, if_ok_then}
 use Rattle.ledger.proofs.ReadFaults.{err_is, failed_unless, not_there, profile_read}
-use Rattle.ledger.proofs.ReadingLemmas.{some_is}
+use Rattle.office_tables.proofs.ReadingLemmas.{some_is}
 use Rattle.ledger.proofs.reading.find_punch.Goals as goal
 
 pub returns-clause-found : goal.returns-clause-found

@@ -7,7 +7,7 @@ use Rattle.office.specs.Jobs.{picture}
 use Rattle.ledger.proofs.BureauResults.{store_passed}
 use Rattle.ledger.proofs.Offices.{if_ok_then, job_is}
 use Rattle.ledger.proofs.ReadFaults.{failed_later, failed_unless}
-use Rattle.ledger.proofs.ReadingLemmas.{picture_deck}
+use Rattle.office_tables.proofs.ReadingLemmas.{picture_deck}
 use Rattle.ledger.proofs.reading.find_running.Goals as goal
 
 pub returns-clause-found : goal.returns-clause-found

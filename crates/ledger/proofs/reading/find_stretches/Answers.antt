@@ -2,11 +2,11 @@ use Rattle.std.proofs.Common.{◌≡◌, ap, map, ◌∙◌}
 use Rattle.std.specs.List.{All}
 use Rattle.ledger_tables.specs.Steps.{seen}
 use Rattle.office.specs.Jobs.{HasSwitches}
-use Rattle.ledger.specs.Standing.{tables_of, stretch_row, stretches_of}
+use Rattle.office_tables.specs.Standing.{tables_of, stretch_row, stretches_of}
 use Rattle.ledger.proofs.BureauResults.{store_passed}
 use Rattle.ledger.proofs.Offices.{still, if_ok_then, job_is}
 use Rattle.ledger.proofs.ReadFaults.{failed_unless, stretches_read, stretches_there}
-use Rattle.ledger.proofs.ReadingLemmas.{ok_is}
+use Rattle.office_tables.proofs.ReadingLemmas.{ok_is}
 use Rattle.ledger.proofs.reading.find_stretches.Goals as goal
 
 pub returns-clause-found : goal.returns-clause-found

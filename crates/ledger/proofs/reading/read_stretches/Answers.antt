@@ -2,8 +2,8 @@ use Rattle.std.proofs.Common.{◌∷◌, [], ◌++◌, ap, ◌∙◌, refl, arit
 use Rattle.std.proofs.lemmas.List.{get_or_default, take_all}
 use Rattle.ledger_rows.proofs.FromCellsRows.{made_from, one_more, same_things}
 use Rattle.office.specs.Jobs.{HasSwitches}
-use Rattle.ledger.specs.Standing.{stretch_row}
-use Rattle.ledger.proofs.ReadingLemmas.{stretches_told}
+use Rattle.office_tables.specs.Standing.{stretch_row}
+use Rattle.office_tables.proofs.ReadingLemmas.{stretches_told}
 use Rattle.ledger.proofs.reading.read_stretches.Goals as goal
 
 pub returns-in_default-clause-all : goal.returns-in_default-clause-all

@@ -1,7 +1,7 @@
 use Rattle.std.proofs.Common.{◌≡◌, map, take}
 use Rattle.std.specs.List.{All}
 use Rattle.office.specs.Jobs.{HasSwitches}
-use Rattle.ledger.specs.Standing.{stretch_row}
+use Rattle.office_tables.specs.Standing.{stretch_row}
 use Rattle.ledger.proofs.reading.read_stretches.Given as goal
 
 abbrev pub invariant-loop-row : goal.invariant-loop-row

@@ -1,6 +1,6 @@
 use Rattle.ledger_tables.proofs.Frames.{on_ok_then}
 use Rattle.ledger_tables.specs.Steps.{seen}
-use Rattle.ledger.specs.Standing.{tables_of}
+use Rattle.office_tables.specs.Standing.{tables_of}
 use Rattle.ledger.proofs.SavingFlags.{flags_saved}
 use Rattle.ledger.proofs.Offices.{job_is}
 use Rattle.ledger.proofs.SummaryLemmas.{flagged_is}

@@ -5,7 +5,7 @@ use Rattle.ledger_tables.proofs.Frames.{on_ok_then}
 use Rattle.office.specs.Kept.{Kept}
 use Rattle.units.specs.Switches.{seven}
 use Rattle.ledger.specs.Saving.{with_handed}
-use Rattle.ledger.specs.Standing.{tables_of, stretches_of, state_of, pages_of, profile_of}
+use Rattle.office_tables.specs.Standing.{tables_of, stretches_of, state_of, pages_of, profile_of}
 use Rattle.ledger.proofs.SavingLemmas.{on_ok_both}
 use Rattle.ledger.proofs.SavingJobs.{none_named, one_stretch, new_saved}
 use Rattle.ledger.proofs.saving.save_new.Goals as goal

@@ -14,8 +14,8 @@ use Rattle.units.specs.Pockets.{pocket_number}
 use Rattle.units.specs.declared.pockets.Pocket.{Pocket}
 use Rattle.units.specs.declared.units.Counts.{Counts}
 use Rattle.ledger.specs.Saving.{with_made}
-use Rattle.ledger.specs.Standing.{tables_of, stretches_of, state_of, pages_of, cards_of, pockets_of, profile_of}
-use Rattle.ledger.specs.Standing as standing
+use Rattle.office_tables.specs.Standing.{tables_of, stretches_of, state_of, pages_of, cards_of, pockets_of, profile_of}
+use Rattle.office_tables.specs.Standing as standing
 use Rattle.ledger.proofs.SavingLemmas.{on_ok_both}
 use Rattle.ledger.proofs.SavingChanges.{slice_saved}
 use Rattle.ledger.proofs.saving.save_slice.Goals as goal

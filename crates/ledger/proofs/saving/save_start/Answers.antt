@@ -5,7 +5,7 @@ use Rattle.ledger_tables.proofs.Frames.{on_ok_then}
 use Rattle.office.specs.Kept.{Kept}
 use Rattle.units.specs.Switches.{seven}
 use Rattle.ledger.specs.Saving.{with_running}
-use Rattle.ledger.specs.Standing.{tables_of, stretches_of, state_of}
+use Rattle.office_tables.specs.Standing.{tables_of, stretches_of, state_of}
 use Rattle.ledger.proofs.SavingChanges.{start_saved}
 use Rattle.ledger.proofs.saving.save_start.Goals as goal
 

@@ -5,7 +5,7 @@ use Rattle.sqlite.specs.State.{HasCleanDisk}
 use Rattle.sqlite.specs.Held.{state}
 use Rattle.office.specs.Meters.{RisenAtMost}
 use Rattle.office.specs.Office.{fold}
-use Rattle.ledger.specs.Standing.{Stands}
+use Rattle.office_tables.specs.Standing.{Stands}
 use Rattle.ledger.specs.Meters.{RisenWithin, attempted_by_all}
 use Rattle.ledger.specs.Shifting.{LeavesWhole, limit_of_all}
 use Rattle.ledger.proofs.ShiftLemmas.{office_more, replies_more, attempted_more, limit_more, risen_more, risen_in_all, risen_on_fault, risen_just, not_risen, leaves_after, leaves_either, only_memory}

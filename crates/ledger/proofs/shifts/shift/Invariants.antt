@@ -5,7 +5,7 @@ use Rattle.sqlite.specs.Held.{state}
 use Rattle.sqlite.specs.View.{doubt}
 use Rattle.office.specs.Meters.{RisenAtMost}
 use Rattle.office.specs.Office.{Office, fold}
-use Rattle.ledger.specs.Standing.{Stands}
+use Rattle.office_tables.specs.Standing.{Stands}
 use Rattle.ledger.specs.Meters.{attempted_by_all}
 use Rattle.ledger.specs.Shifting.{limit_of_all}
 use Rattle.ledger.proofs.shifts.shift.Given as goal

@@ -3,7 +3,7 @@ use Rattle.sqlite.specs.State.{HasCleanDisk}
 use Rattle.ledger_tables.specs.Steps.{seen}
 use Rattle.office.specs.Kept.{Kept}
 use Rattle.office.specs.declared.replies.Reply.TheVariants.{Taken}
-use Rattle.ledger.proofs.ReadingLemmas.{picture_deck}
+use Rattle.office_tables.proofs.ReadingLemmas.{picture_deck}
 use Rattle.ledger.proofs.Replies.{too_many, few_enough}
 use Rattle.ledger.proofs.submissions.add.Goals as goal
 

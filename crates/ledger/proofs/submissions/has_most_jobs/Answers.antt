@@ -1,6 +1,6 @@
 use Rattle.std.proofs.Common.{nat_le, ap, ◌∙◌}
 use Rattle.ledger_tables.specs.Steps.{seen}
-use Rattle.ledger.specs.Standing.{tables_of}
+use Rattle.office_tables.specs.Standing.{tables_of}
 use Rattle.ledger.proofs.BureauResults.{store_passed}
 use Rattle.ledger.proofs.Offices.{still}
 use Rattle.ledger.proofs.Replies.{jobs_named}

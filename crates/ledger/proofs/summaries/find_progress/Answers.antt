@@ -5,12 +5,12 @@ use Rattle.ledger_rows.specs.Columns.{state_row}
 use Rattle.ledger_tables.specs.Listed.{progress_row}
 use Rattle.ledger_tables.specs.declared.faults.Fault.TheVariants.{Store}
 use Rattle.ledger_tables.specs.Steps.{seen}
-use Rattle.ledger.specs.Standing.{tables_of, state_of}
+use Rattle.office_tables.specs.Standing.{tables_of, state_of}
 use Rattle.ledger.proofs.BureauResults.{store_passed}
 use Rattle.ledger.proofs.ListFaults.{progress_read}
 use Rattle.ledger.proofs.Offices.{still, if_ok_then, job_is}
 use Rattle.ledger.proofs.ReadFaults.{err_is, failed_unless, not_there}
-use Rattle.ledger.proofs.ReadingLemmas.{some_is}
+use Rattle.office_tables.proofs.ReadingLemmas.{some_is}
 use Rattle.ledger.proofs.summaries.find_progress.Goals as goal
 
 pub returns-clause-found : goal.returns-clause-found

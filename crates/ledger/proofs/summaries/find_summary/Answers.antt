@@ -6,7 +6,7 @@ use Rattle.ledger_tables.specs.Cells.{JobCells}
 use Rattle.ledger_tables.specs.Steps.{seen}
 use Rattle.ledger.proofs.BureauResults.{store_passed}
 use Rattle.ledger.proofs.ListFaults.{failed_second}
-use Rattle.ledger.proofs.ReadingLemmas.{some_is}
+use Rattle.office_tables.proofs.ReadingLemmas.{some_is}
 use Rattle.ledger.proofs.SummaryLemmas.{summary_is}
 use Rattle.ledger.proofs.summaries.find_summary.Goals as goal
 

@@ -9,7 +9,7 @@ use Rattle.sqlite.specs.View.{IsClean, doubt}
 use Rattle.sqlite.specs.WalFiles.{outcomes}
 use Rattle.sqlite_wal.specs.Reads.{AreClean}
 use Rattle.office.specs.Office.{Office}
-use Rattle.ledger.specs.Standing.{Stands}
+use Rattle.office_tables.specs.Standing.{Stands}
 use Rattle.ledger_files.specs.Closing.{HindersClosing, StandsAlone}
 use Rattle.ledger_files.proofs.closing.close.Goals as goal
 

@@ -6,7 +6,7 @@ use Rattle.sqlite.specs.Recovery.{Image}
 use Rattle.sqlite.specs.Tree.{Trees}
 use Rattle.sqlite.specs.WalFiles.{outcomes}
 use Rattle.sqlite.specs.Files.{HoldsDatabase}
-use Rattle.ledger.specs.Standing.{LeftAs}
+use Rattle.office_tables.specs.Standing.{LeftAs}
 use Rattle.ledger_files.proofs.MigratingLemmas.{closed_migration}
 use Rattle.ledger_files.proofs.closing.close_connection.Goals as goal
 

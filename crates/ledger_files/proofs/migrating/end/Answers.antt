@@ -5,7 +5,7 @@ use Rattle.sqlite.specs.Files.{file_state}
 use Rattle.sqlite.specs.State.{HasCleanDisk}
 use Rattle.sqlite.specs.Tree.{Trees}
 use Rattle.ledger.specs.Older.{LeftOf}
-use Rattle.ledger.specs.Standing.{LeftAs}
+use Rattle.office_tables.specs.Standing.{LeftAs}
 use Rattle.ledger_files.proofs.migrating.end.Goals as goal
 
 pub returns-in-Ok-clause-version : goal.returns-in-Ok-clause-version

@@ -8,7 +8,7 @@ use Rattle.ledger_tables.specs.Versions.{IsKnown}
 use Rattle.ledger_tables.specs.declared.openings.OpenFault.TheVariants.{NoMemory}
 use Rattle.office.specs.Office.{Office}
 use Rattle.ledger.specs.Older.{LeftOf, StandsOf}
-use Rattle.ledger.specs.Standing.{LeftAs, Stands}
+use Rattle.office_tables.specs.Standing.{LeftAs, Stands}
 use Rattle.ledger_files.specs.Migrating.{AreNotMigrated}
 use Rattle.ledger_files.specs.Opening.{HoldsOnly, IsCleanKept}
 use Rattle.ledger_files.proofs.OpeningLeftovers.{not_migrated}

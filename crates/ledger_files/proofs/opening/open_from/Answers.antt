@@ -5,7 +5,7 @@ use Rattle.sqlite.specs.Tree.{Trees}
 use Rattle.sqlite.specs.Files.{file_state, HoldsDatabase}
 use Rattle.ledger_tables.specs.Versions.{IsKnown}
 use Rattle.sqlite.specs.WalFiles.{image_at}
-use Rattle.ledger.specs.Standing.{LeftAs, Stands}
+use Rattle.office_tables.specs.Standing.{LeftAs, Stands}
 use Rattle.ledger_files.specs.Opening.{AreRefused, HoldsOnly, IsCleanKept}
 use Rattle.ledger_files.proofs.OpeningLeftovers.{not_opened}
 use Rattle.ledger_files.proofs.opening.open_from.Goals as goal

@@ -1,6 +1,6 @@
 use Rattle.std.proofs.Common.{ap, ◌∙◌}
 use Rattle.machine.specs.Run.{State}
-use Rattle.ledger.proofs.ReadingLemmas.{picture_deck}
+use Rattle.office_tables.proofs.ReadingLemmas.{picture_deck}
 use Rattle.job_checks.proofs.runs.JobRun.loaded_deck.Goals as goal
 
 pub returns : goal.returns

@@ -1,6 +1,6 @@
 use Rattle.std.proofs.Common.{◌⊎◌, sym, subst, ◌∙◌}
 use Rattle.office.specs.Office.{taken}
-use Rattle.ledger.specs.Standing.{LeftAs}
+use Rattle.office_tables.specs.Standing.{LeftAs}
 use Rattle.ledger.proofs.Replies.{none_is}
 use Rattle.ledger.proofs.bureau.Bureau.apply.Goals as goal
 

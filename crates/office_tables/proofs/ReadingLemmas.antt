@@ -14,7 +14,7 @@ use Rattle.units.specs.Switches.{seven, AreSeven}
 use Rattle.units.specs.Units.{nothing_made}
 use Rattle.units.specs.declared.profiles.Profile.TheVariants.{Plain}
 use Rattle.units.specs.declared.switches.Switches.{Switches}
-use Rattle.ledger.specs.Standing.{stretch_row}
+use Rattle.office_tables.specs.Standing.{stretch_row}
 
 -- rows of stretches tell one stretch from another
 pub stretches_told : AreTold stretch_row HasSwitches
