@@ -31,12 +31,12 @@ pub enum CopyFault {
 
 impl CopyFault {
     /// The fault of an error while the new file is made.
-    pub(crate) fn of(error: &io::Error) -> CopyFault {
+    pub fn of(error: &io::Error) -> CopyFault {
         CopyFault::Copy(fault_of(error))
     }
 
     /// The fault of an error where the new file gets its name by a hard link.
-    pub(crate) fn of_link(error: &io::Error) -> CopyFault {
+    pub fn of_link(error: &io::Error) -> CopyFault {
         match error.kind() {
             ErrorKind::AlreadyExists => CopyFault::Taken,
             ErrorKind::PermissionDenied | ErrorKind::Unsupported => CopyFault::Linkless,

@@ -37,7 +37,7 @@ fn created<S: Alter + Drop>(alloc: Global, conn: Connection<S>) -> Result<Connec
 }
 
 /// Opens the empty file at a path, and makes the tables of a bureau without jobs in it.
-pub(crate) fn open_new<S: Start>(
+pub fn open_new<S: Start>(
     rt: &HostRuntime,
     path: &str,
     start: S,
@@ -117,7 +117,7 @@ fn make<S: Start>(rt: &HostRuntime, path: &str, start: S) -> Result<Closed<FileF
 
 /// Whether there is no file at a path, and no log or journal beside it: a new file would be taken
 /// for the one that they belong to.
-pub(crate) fn is_place_free(rt: &HostRuntime, path: &str) -> Result<bool, OpenFault>
+pub fn is_place_free(rt: &HostRuntime, path: &str) -> Result<bool, OpenFault>
     ensures { IfErr result IsKnown }
 {
     for end in ["", "-wal", "-journal"] {

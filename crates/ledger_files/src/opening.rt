@@ -66,7 +66,7 @@ fn adopted<S: Alter + Drop>(
 }
 
 /// The fault of the store's error: 1 if there is no memory, else 2.
-pub(crate) fn store_fault_of(error: Error) -> OpenFault
+pub fn store_fault_of(error: Error) -> OpenFault
     ensures memory { error ≡ Error.SqliteFailure ErrorCode.OutOfMemory
         → result ≡ OpenFault.NoMemory }
     ensures told { result ≡ store_fault error }
@@ -79,7 +79,7 @@ pub(crate) fn store_fault_of(error: Error) -> OpenFault
 }
 
 /// Hands on an error by which files could not be opened, and all that is left of the files.
-pub(crate) fn handed_on<S: Start>(
+pub fn handed_on<S: Start>(
     error: Error,
     left: Option<Leftover<FileFrom<S>>>,
 ) -> (OpenFault, Kept<FileFrom<S>>)
@@ -128,7 +128,7 @@ pub fn open_from<S: Start>(
 }
 
 /// Opens the file at a path as [`open_from`] does, for one who wants its connection alone.
-pub(crate) fn open_connection(
+pub fn open_connection(
     rt: &HostRuntime,
     path: &str,
 ) -> Result<Connection<FileStore<File>>, (OpenFault, Kept<File>)> {

@@ -11,7 +11,7 @@ use crate::damage::is_torn;
 use crate::kept::Kept;
 use crate::undoing::{Undoing, is_headless};
 use ledger_tables::OpenFault;
-pub(crate) use parts::{Part, remove_second_name};
+pub use parts::{Part, remove_second_name};
 use sqlite::Unknown;
 use sqlite_disk::Disk;
 use std::fs::{File, Metadata, OpenOptions};
@@ -20,7 +20,7 @@ use std::os::unix::fs::{MetadataExt, OpenOptionsExt};
 use std::{fs, io};
 
 /// Who may read and write a new file: its owner, and all others may read it.
-pub(crate) const MODE: u32 = 0o644;
+pub const MODE: u32 = 0o644;
 
 /// The first bytes of a database's file.
 const BEGINNING: [u8; 16] = *b"SQLite format 3\0";
@@ -28,8 +28,8 @@ const BEGINNING: [u8; 16] = *b"SQLite format 3\0";
 /// The paths of a bureau's file and of its log. Nothing else here knows the name of a log, so what
 /// happens to one is all in the methods.
 #[derive(Drop)]
-pub(crate) struct Place {
-    pub(crate) file: String,
+pub struct Place {
+    pub file: String,
     log: String,
 }
 
@@ -38,7 +38,7 @@ impl Place {
     /// file itself. The file must begin as a database does: this comes before it is opened as one,
     /// since that would create a missing file, and fill an empty one. If it has a second name, since
     /// the program that made it was stopped, that name goes.
-    pub(crate) fn find(rt: &HostRuntime, path: &str) -> Result<Place, OpenFault>
+    pub fn find(rt: &HostRuntime, path: &str) -> Result<Place, OpenFault>
         ensures { IfErr result IsNotOld }
     {
         let place = match fs::canonicalize(rt, path) {
@@ -61,7 +61,7 @@ impl Place {
 
     /// Copies the log, if there is one, into a new log of a mode beside another file. Fails if that
     /// has one.
-    pub(crate) fn copy_log(&self, rt: &HostRuntime, to: &Place, mode: u32) -> io::Result<()> {
+    pub fn copy_log(&self, rt: &HostRuntime, to: &Place, mode: u32) -> io::Result<()> {
         if self.log_length(rt).is_none() {
             return Ok(());
         }
@@ -70,7 +70,7 @@ impl Place {
     }
 
     /// The length of the log, if there is one.
-    pub(crate) fn log_length(&self, rt: &HostRuntime) -> Option<u64> {
+    pub fn log_length(&self, rt: &HostRuntime) -> Option<u64> {
         match fs::symlink_metadata(rt, self.log.as_str()) {
             Ok(found) => Some(found.len()),
             Err(_) => None,
@@ -79,7 +79,7 @@ impl Place {
 
     /// Whether the log has bytes and no header behind which recovery looks: it was being emptied, or
     /// is damaged, which nothing tells apart. An open would empty it.
-    pub(crate) fn has_headless_log(&self, rt: &HostRuntime) -> bool {
+    pub fn has_headless_log(&self, rt: &HostRuntime) -> bool {
         match File::open(rt, &self.log) {
             Ok(mut log) => is_headless(self.log_length(rt).unwrap_or(0), first_of(&mut log)),
             Err(_) => false,
@@ -89,7 +89,7 @@ impl Place {
     /// Whether the log ends in a commit that is not whole, though it was written to its end, or as it
     /// was when the power went. An open would drop that. It is not asked where there is no log, since
     /// the files are opened for it.
-    pub(crate) fn has_torn_log(&self, rt: &HostRuntime) -> bool {
+    pub fn has_torn_log(&self, rt: &HostRuntime) -> bool {
         if self.log_length(rt).is_none() {
             return false;
         }
@@ -101,19 +101,14 @@ impl Place {
 
     /// Removes the log of the files that are here. They were closed: they hold their database with
     /// the log and without it. They are still locked, so that no other program has this log.
-    pub(crate) fn remove_log<D: Disk>(&self, rt: &HostRuntime, _closed: &Closed<D>) {
+    pub fn remove_log<D: Disk>(&self, rt: &HostRuntime, _closed: &Closed<D>) {
         remove(rt, &self.log);
     }
 
     /// Undoes what an open that failed, or a look, did to the log, which had this length before, if
     /// there was one. What the open handed back must still keep the files locked: the log of files
     /// that were not reached is another program's.
-    pub(crate) fn restore_log<D: Disk>(
-        &self,
-        rt: &HostRuntime,
-        _kept: &Kept<D>,
-        before: Option<u64>,
-    )
+    pub fn restore_log<D: Disk>(&self, rt: &HostRuntime, _kept: &Kept<D>, before: Option<u64>)
         requires { AreLocked _kept.now }
     {
         let Some(now) = self.log_length(rt) else {
@@ -158,7 +153,7 @@ fn read_beginning(file: &mut File) -> Result<[u8; 16], ErrorKind> {
 }
 
 /// Checks that there is a file at a path, and that it begins as a database does.
-pub(crate) fn look(rt: &HostRuntime, path: &str) -> Result<(), OpenFault>
+pub fn look(rt: &HostRuntime, path: &str) -> Result<(), OpenFault>
     ensures { IfErr result IsNotOld }
 {
     match fs::metadata(rt, path) {
@@ -183,7 +178,7 @@ fn look_at_folder(rt: &HostRuntime, path: &str) -> Result<(), OpenFault>
 }
 
 /// The fault where a path cannot be used: 1 for want of memory, else 2.
-pub(crate) fn fault_of(error: &io::Error) -> OpenFault
+pub fn fault_of(error: &io::Error) -> OpenFault
     ensures told { result ≡ path_fault (error_kind error.now) }
     ensures known { IsKnown result }
 {
@@ -194,7 +189,7 @@ pub(crate) fn fault_of(error: &io::Error) -> OpenFault
 }
 
 /// The path with more letters at its end.
-pub(crate) fn beside(rt: &HostRuntime, path: &str, end: &str) -> Result<String, OpenFault>
+pub fn beside(rt: &HostRuntime, path: &str, end: &str) -> Result<String, OpenFault>
     ensures { IfErr result IsKnown }
 {
     match format!(in rt.alloc(); "{path}{end}") {
@@ -212,7 +207,7 @@ fn make_file(rt: &HostRuntime, path: &str, mode: u32) -> io::Result<()> {
 }
 
 /// Copies the bytes of a file into one that is there, and has the disk keep them.
-pub(crate) fn copy_bytes(rt: &HostRuntime, from: &str, to: &str) -> io::Result<()> {
+pub fn copy_bytes(rt: &HostRuntime, from: &str, to: &str) -> io::Result<()> {
     let mut source = File::open(rt, from)?;
     let mut target = OpenOptions::new().write(true).open(rt, to)?;
     io::copy(&mut source, &mut target)?;
@@ -237,7 +232,7 @@ fn is_one_file(one: &Metadata, other: &Metadata) -> bool {
 }
 
 /// Whether the files at two paths are one, by links or by two names.
-pub(crate) fn are_one_file(rt: &HostRuntime, first: &str, second: &str) -> bool {
+pub fn are_one_file(rt: &HostRuntime, first: &str, second: &str) -> bool {
     match (fs::metadata(rt, first), fs::metadata(rt, second)) {
         (Ok(one), Ok(other)) => is_one_file(&one, &other),
         _ => false,
@@ -245,7 +240,7 @@ pub(crate) fn are_one_file(rt: &HostRuntime, first: &str, second: &str) -> bool 
 }
 
 /// Whether there is nothing at a path.
-pub(crate) fn is_free(rt: &HostRuntime, path: &str) -> bool {
+pub fn is_free(rt: &HostRuntime, path: &str) -> bool {
     match fs::symlink_metadata(rt, path) {
         Ok(_) => false,
         Err(error) => error.kind() == ErrorKind::NotFound,
@@ -253,7 +248,7 @@ pub(crate) fn is_free(rt: &HostRuntime, path: &str) -> bool {
 }
 
 /// Has the disk keep the bytes of a file. Returns how many there are.
-pub(crate) fn sync(rt: &HostRuntime, path: &str) -> io::Result<u64> {
+pub fn sync(rt: &HostRuntime, path: &str) -> io::Result<u64> {
     let file = fs::open(rt, path)?;
     file.sync_all()?;
     Ok(file.metadata()?.len())
@@ -267,7 +262,7 @@ fn open_folder_of(rt: &HostRuntime, path: &str) -> io::Result<File> {
 }
 
 /// Has the disk keep the names of a folder: that of the file at a path.
-pub(crate) fn sync_folder_of(rt: &HostRuntime, path: &str) {
+pub fn sync_folder_of(rt: &HostRuntime, path: &str) {
     if let Ok(folder) = open_folder_of(rt, path) {
         let _ = folder.sync_all();
     }

@@ -21,7 +21,7 @@ const OWNED: u32 = 0o600;
 
 /// A bureau's file that is to be after it what it was.
 #[derive(Drop)]
-pub(crate) struct Source {
+pub struct Source {
     place: Place,
     /// The length that its log had before it was opened, if there was one.
     log: Option<u64>,
@@ -30,7 +30,7 @@ pub(crate) struct Source {
 impl Source {
     /// Opens the bureau's file at a path. From then on no other program has it. If it cannot be
     /// opened, its log becomes what it was. It is not opened if that would change what the log has.
-    pub(crate) fn open(
+    pub fn open(
         rt: &HostRuntime,
         path: &str,
     ) -> Result<(Source, Connection<FileStore<File>>), OpenFault> {
@@ -50,7 +50,7 @@ impl Source {
     }
 
     /// Who may read and write the file, and its owner in any case.
-    pub(crate) fn mode(&self, rt: &HostRuntime) -> Result<u32, CopyFault> {
+    pub fn mode(&self, rt: &HostRuntime) -> Result<u32, CopyFault> {
         match fs::metadata(rt, self.place.file.as_str()) {
             Ok(found) => Ok((found.mode() & ACCESS) | OWNED),
             Err(error) => Err(CopyFault::of(&error)),
@@ -58,7 +58,7 @@ impl Source {
     }
 
     /// Copies the file, and its log if it had one, to another place, whose log is to have a mode.
-    pub(crate) fn copy_to(&self, rt: &HostRuntime, to: &Place, mode: u32) -> io::Result<()> {
+    pub fn copy_to(&self, rt: &HostRuntime, to: &Place, mode: u32) -> io::Result<()> {
         copy_bytes(rt, &self.place.file, &to.file)?;
         match self.log {
             Some(_) => self.place.copy_log(rt, to, mode),
@@ -67,14 +67,26 @@ impl Source {
     }
 
     /// Lets the file go. Its log becomes what it was while the file is still locked.
-    pub(crate) fn release(self, rt: &HostRuntime, store: FileStore<File>) {
+    pub fn release(self, rt: &HostRuntime, store: FileStore<File>) {
         self.release_kept(rt, Kept::Left(Leftover::Store(store)));
     }
 
     /// The same, where this is left of the open that reached the file.
-    pub(crate) fn release_kept(self, rt: &HostRuntime, kept: Kept<File>)
+    pub fn release_kept(self, rt: &HostRuntime, kept: Kept<File>)
         requires { AreLocked kept }
     {
         self.place.restore_log(rt, &kept, self.log);
+    }
+}
+
+/// The fault by which the file at a path cannot be opened as a bureau's, if there is one. The file
+/// and its log are after it what they were.
+pub fn find_fault(rt: &HostRuntime, path: &str) -> Option<OpenFault> {
+    match Source::open(rt, path) {
+        Ok((source, conn)) => {
+            source.release_kept(rt, Kept::Connection(conn));
+            None
+        }
+        Err(fault) => Some(fault),
     }
 }

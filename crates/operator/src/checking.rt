@@ -4,8 +4,9 @@ ghost use Rattle.std.specs.Prelude.{IsSome};
 
 use crate::faults::{found, tell_unopened};
 use command_line::Status;
-use job_checks::{Report, check, report_text};
-use ledger_files::{Look, look_into};
+use file_copies::{Look, look_into};
+use job_archives::own_connection;
+use job_checks::{Report, check, hand_back, report_text};
 use ledger_tables::OpenFault;
 use sqlite::{Alter, Connection};
 use std::alloc::Global;
@@ -22,7 +23,15 @@ impl Look for CheckLook {
     ghost looked = { λ old new. IsSome new.checked };
 
     fn look<S: Alter + Drop>(&mut self, alloc: Global, conn: Connection<S>) -> S {
-        let (checked, store) = check(alloc, conn);
+        let own = match own_connection(alloc) {
+            Ok(own) => own,
+            Err(fault) => {
+                self.checked = Some(Err(OpenFault::from(fault)));
+                let (_sound, store) = hand_back(conn);
+                return store;
+            }
+        };
+        let (checked, store) = check(alloc, conn, own.schema());
         self.checked = Some(checked.map_err(OpenFault::from));
         store
     }

@@ -4,8 +4,9 @@ ghost use Rattle.std.specs.Prelude.{IsNone, IsOkAnd, IsSomeAnd};
 
 use crate::copy_faults::{Found, Made, Unfilled, jobs_found, tell_copy_fault};
 use command_line::Status;
+use file_copies::{Comparison, copy};
 use job_archives::{Compared, Customers, compare_files};
-use ledger_files::{Comparison, CopyFault, copy};
+use ledger_files::CopyFault;
 use sqlite::{Alter, Connection};
 use std::io;
 use std::io::Write;

@@ -3,8 +3,8 @@
 ghost use Rattle.std.specs.Prelude.{⊤};
 
 use crate::faults::found;
+use file_copies::{Look, look_into};
 use job_checks::{EachJob, JobReport, JobRun, Walked, each_job};
-use ledger_files::{Look, look_into};
 use ledger_tables::{Fault, OpenFault};
 use sqlite::{Alter, Connection};
 use std::alloc::Global;

@@ -6,8 +6,8 @@ ghost use Rattle.job_checks.specs.Tables.{LeavesLess};
 
 use crate::copy_faults::{Found, Made, Unfilled, failed, jobs_found, tell_copy_fault};
 use command_line::Status;
+use file_copies::{Joining, join};
 use job_archives::{Compared, Customers, compare_join, copy_jobs, first_shared};
-use ledger_files::{Joining, join};
 use ledger_tables::Fault;
 use sqlite::{Alter, Connection};
 use std::alloc::Global;

@@ -4,8 +4,8 @@ ghost use Rattle.std.specs.Prelude.{IsSome};
 
 use crate::faults::{found, tell_unopened};
 use command_line::Status;
+use file_copies::{Look, look_into};
 use job_archives::list_jobs;
-use ledger_files::{Look, look_into};
 use ledger_tables::OpenFault;
 use sqlite::{Alter, Connection};
 use std::alloc::Global;

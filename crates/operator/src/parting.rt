@@ -3,8 +3,8 @@
 use crate::copy_faults::{Unfilled, failed};
 use crate::copying::{Copied, RowComparison};
 use command_line::Status;
+use file_copies::{Filling, part};
 use job_archives::{Customers, copy_jobs, first_unknown};
-use ledger_files::{Filling, part};
 use ledger_tables::Fault;
 use sqlite::{Alter, Connection};
 use std::alloc::Global;

@@ -14,13 +14,13 @@ use texts::MOST_PARTS;
 /// A file that this program has made beside a path, under a name that no other file has. It alone
 /// may be removed with its log, whatever is in it.
 #[derive(Drop)]
-pub(crate) struct Part {
+pub struct Part {
     place: Place,
 }
 
 impl Part {
     /// Makes an empty file of a mode beside a path: `PATH.N.part`.
-    pub(crate) fn reserve(rt: &HostRuntime, path: &str, mode: u32) -> Result<Part, OpenFault>
+    pub fn reserve(rt: &HostRuntime, path: &str, mode: u32) -> Result<Part, OpenFault>
         ensures { IfErr result IsKnown }
     {
         for number in 1..=MOST_PARTS {
@@ -37,12 +37,12 @@ impl Part {
     }
 
     /// Where it is.
-    pub(crate) fn place(&self) -> &Place {
+    pub fn place(&self) -> &Place {
         &self.place
     }
 
     /// Removes it, and its log.
-    pub(crate) fn remove(self, rt: &HostRuntime) {
+    pub fn remove(self, rt: &HostRuntime) {
         remove(rt, &self.place.log);
         remove(rt, &self.place.file);
     }
@@ -68,7 +68,7 @@ fn is_at(rt: &HostRuntime, file: &Metadata, path: &str) -> bool {
 
 /// Removes the second name of the file at a path, `PATH.N.part`, if it has one: so it is if the
 /// program that made the file was stopped at the end.
-pub(crate) fn remove_second_name(rt: &HostRuntime, path: &str) -> Result<(), OpenFault>
+pub fn remove_second_name(rt: &HostRuntime, path: &str) -> Result<(), OpenFault>
     ensures { IfErr result IsKnown }
 {
     let Ok(file) = fs::symlink_metadata(rt, path) else {

@@ -3,12 +3,10 @@
 
 ghost use Rattle.std.specs.Prelude.{IsTrue, OnOk};
 
-use crate::closing::close_connection;
-use crate::copy_faults::CopyFault;
-use crate::kept::Kept;
-use crate::making::is_place_free;
-use crate::opening::open_connection;
-use crate::places::{Part, Place, sync, sync_folder_of};
+use ledger_files::{
+    CopyFault, Kept, Part, Place, close_connection, is_place_free, open_connection, sync,
+    sync_folder_of,
+};
 use ledger_tables::OpenFault;
 use sqlite::{Connection, FileStore, Leftover};
 use sqlite_std_file::File;

@@ -5,8 +5,7 @@ ghost use Rattle.sqlite.specs.{Held.{state}, Tree.{Trees}, View.{IsClean}};
 ghost use Rattle.office.specs.Office.{Office};
 ghost use Rattle.office_tables.specs.Standing.{LeftAs, Stands};
 
-use crate::kept::Kept;
-use crate::sources::Source;
+use ledger_files::Source;
 use ledger_tables::OpenFault;
 use sqlite::{Alter, Connection};
 use std::alloc::Global;
@@ -38,17 +37,5 @@ pub fn look_into<L: Look>(rt: &HostRuntime, path: &str, look_at: &mut L) -> Resu
             Ok(())
         }
         Err(fault) => Err(fault),
-    }
-}
-
-/// The fault by which the file at a path cannot be opened as a bureau's, if there is one. The file
-/// and its log are after it what they were.
-pub fn find_fault(rt: &HostRuntime, path: &str) -> Option<OpenFault> {
-    match Source::open(rt, path) {
-        Ok((source, conn)) => {
-            source.release_kept(rt, Kept::Connection(conn));
-            None
-        }
-        Err(fault) => Some(fault),
     }
 }

@@ -2,10 +2,8 @@
 
 ghost use Rattle.std.specs.Prelude.{IsTrue, OnOk};
 
-use crate::copy_faults::CopyFault;
 use crate::new_files::{check_name, close_new, end, open_part, release_part, reserve};
-use crate::places::{Part, Place};
-use crate::sources::Source;
+use ledger_files::{CopyFault, Part, Place, Source};
 use sqlite::{Alter, Connection};
 
 /// The comparison of a copy with its file, whatever the stores are. It keeps what it has found.

@@ -3,12 +3,8 @@
 ghost use Rattle.std.specs.Prelude.{IsTrue, OnOk};
 ghost use Rattle.sqlite.specs.{Held.{state}, State.{HasCleanDisk}, Tree.{Trees}};
 
-use crate::copy_faults::CopyFault;
-use crate::kept::Kept;
-use crate::making::open_new;
 use crate::new_files::{check_name, close_new, end, open_part, release_part, reserve};
-use crate::places::{Part, Place, are_one_file};
-use crate::sources::Source;
+use ledger_files::{CopyFault, Kept, Part, Place, Source, are_one_file, open_new};
 use sqlite::{Alter, Connection, Unknown};
 use std::alloc::Global;
 

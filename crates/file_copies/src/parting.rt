@@ -3,12 +3,9 @@
 ghost use Rattle.std.specs.Prelude.{OnOk};
 ghost use Rattle.sqlite.specs.{Held.{state}, State.{HasCleanDisk}, Tree.{Trees}};
 
-use crate::copy_faults::CopyFault;
 use crate::copying::{Comparison, read_back};
-use crate::making::open_new;
 use crate::new_files::{check_name, close_new, end, reserve};
-use crate::places::{Part, Place};
-use crate::sources::Source;
+use ledger_files::{CopyFault, Part, Place, Source, open_new};
 use sqlite::{Alter, Connection, Unknown};
 use std::alloc::Global;
 
