@@ -48,13 +48,3 @@ minutes() {
         echo $((($1 + processors - 1) / processors))
     fi
 }
-
-# Makes the program by the toolchain's checked build, unless it is there, and has `program` name it.
-take_checked() {
-    program=$top/crates/$me/out/$me.checked
-    if is_stale "$program" "$top/tools/building"; then
-        need_tools
-        say "not proved yet: the toolchain's checked build is made first, once, in a minute or two"
-        call "$top/tools/building/build-checked" "$me"
-    fi
-}

@@ -3,9 +3,10 @@ use Rattle.std.proofs.Common.{◌≡◌, Result, Ok, Err}
 use Rattle.std.specs.Prelude.{IfOk}
 use Rattle.command_line.specs.declared.statuses.Status.{Status}
 use Rattle.bureau.specs.Migrating.{HasMigrated}
-use Rattle.bureau.specs.Outcomes.{HasShown, status_of}
-use Rattle.bureau.specs.Work.{Bytes, HasApplied}
-use Rattle.bureau.specs.declared.outcomes.Outcome.{Outcome}
+use Rattle.bureau_work.specs.Outcomes.{HasShown, status_of}
+use Rattle.bureau_work.specs.Work.{Bytes}
+use Rattle.bureau_work.specs.declared.outcomes.Outcome.{Outcome}
+use Rattle.bureau.specs.Work.{HasApplied}
 use Rattle.bureau.specs.Answers.{HasEndedMigration, HasEndedScript}
 
 pub ended_script : {X : Type 0} (result : Result Status X) (outcome : Outcome) (output_old output_new errors_old errors_new : Bytes) → HasApplied outcome output_old output_new

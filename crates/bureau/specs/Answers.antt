@@ -14,9 +14,10 @@ use Rattle.local_runs.specs.declared.Assembled.{Assembled}
 use Rattle.local_runs.specs.Put.{IsPut}
 use Rattle.command_line.specs.Asked.{page_of}
 use Rattle.bureau.specs.Migrating.{HasMigrated}
-use Rattle.bureau.specs.Outcomes.{HasShown, status_of}
-use Rattle.bureau.specs.Work.{Bytes, HasApplied}
-use Rattle.bureau.specs.declared.outcomes.Outcome.{Outcome}
+use Rattle.bureau.specs.Work.{HasApplied}
+use Rattle.bureau_work.specs.Outcomes.{HasShown, status_of}
+use Rattle.bureau_work.specs.Work.{Bytes}
+use Rattle.bureau_work.specs.declared.outcomes.Outcome.{Outcome}
 
 -- the assembly of a text ended, or a fault kept it from being read, and its bytes for OUT were
 -- written or that failed

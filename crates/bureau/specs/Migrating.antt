@@ -7,10 +7,10 @@ use Rattle.ledger_files.specs.declared.unfinished.Unfinished.{Unfinished}
 use Rattle.ledger_tables.specs.Schema.{own_version}
 use Rattle.ledger_tables.specs.Versions.{IsNotOld}
 use Rattle.ledger_tables.specs.declared.openings.OpenFault.{OpenFault}
-use Rattle.bureau.specs.Outcomes.{IsLine}
-use Rattle.bureau.specs.Work.{Bytes}
-use Rattle.bureau.specs.declared.outcomes.Outcome.{Outcome}
-use Rattle.bureau.specs.declared.outcomes.Outcome.TheVariants as outcome
+use Rattle.bureau_work.specs.Outcomes.{IsLine}
+use Rattle.bureau_work.specs.Work.{Bytes}
+use Rattle.bureau_work.specs.declared.outcomes.Outcome.{Outcome}
+use Rattle.bureau_work.specs.declared.outcomes.Outcome.TheVariants as outcome
 
 -- the words for a file that was found to be of this version: from which version to which it was
 -- raised, or which it is of

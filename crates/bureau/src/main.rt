@@ -2,8 +2,8 @@
 //! files and streams.
 //!
 //! A bureau's file is created or migrated, a script is applied to it, requests are served from it, and
-//! what a job made is exported from it. A script, requests and an export are each a `Work` of
-//! `ledger_files`: commands that are carried out and replied to. Of [`apply`], [`serve`] and
+//! what a job made is exported from it. The work with the open bureau is in `bureau_work`: commands
+//! that are carried out and replied to. Of [`apply`], [`serve`] and
 //! [`export`] it is proved that their work is a round from the files that were found to whatever a
 //! crash leaves ([`Ended`]), of [`migrate`] that the office stays, and of [`init`] that the new file
 //! holds the office without jobs (both of `ledger_files`). Of [`apply`] it is also proved that the
@@ -19,12 +19,10 @@
 //!
 #![tactic(auto)]
 
-mod connections;
 mod ended;
 mod explaining;
 mod exporting;
 mod migrating;
-mod outcomes;
 mod scripting;
 mod serving;
 
@@ -38,12 +36,13 @@ ghost use Rattle.command_line.specs.{
 };
 ghost use Rattle.bureau.specs.Answers.{HasAnswered, HasAssembled, HasEnded, HasEndedMigration, HasEndedScript};
 
+use crate::ended::outcome_of_made;
 use crate::explaining::{Overheard, explain, is_wanted};
 use crate::exporting::export;
 use crate::migrating::tell_migrated;
-use crate::outcomes::{Outcome, show_outcome};
 use crate::scripting::apply;
 use crate::serving::serve;
+use bureau_work::show_outcome;
 use command_line::{
     Mistake, Status, Task, Unfailing, exit_code, show_help, show_version, task_of, tell_mistake,
 };
@@ -82,7 +81,7 @@ fn make_file<E: Write>(rt: &HostRuntime, file: &str, errors: &mut E) -> io::Resu
         (E.contents errors.old) (E.contents errors.new)) }
 {
     let made = init(rt, file, Unknown);
-    show_outcome(errors, Outcome::of_made(&made))
+    show_outcome(errors, outcome_of_made(&made))
 }
 
 /// Serves requests from the bureau in a file.

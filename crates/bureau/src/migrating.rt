@@ -1,9 +1,10 @@
 //! Telling what came of a migration of a bureau's file.
 
 ghost use Rattle.std.specs.Prelude.{OnOk};
-ghost use Rattle.bureau.specs.{Migrating.{TellsMigrated, version_words}, Outcomes.{IsLine}};
+ghost use Rattle.bureau_work.specs.Outcomes.{IsLine};
+ghost use Rattle.bureau.specs.Migrating.{TellsMigrated, version_words};
 
-use crate::outcomes::Outcome;
+use bureau_work::Outcome;
 use ledger_files::{Migrated, Unfinished};
 use ledger_tables::VERSION;
 use sqlite_disk::Disk;

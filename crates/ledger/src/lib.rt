@@ -6,13 +6,14 @@
 //! `earlier_machine`; all of them through `ledger_tables` and `ledger_rows`.
 //! `submissions`, `job_commands`, `by_summary` and `lists` connect them to `office`. `bureau` puts
 //! each command into one transaction, whose commit is the last call of the store. `shifts` applies
-//! a list of commands up to the first fault. `migrating` raises the tables of an earlier version.
+//! a list of commands up to the first fault. [`Work`] is any work with an open bureau. `migrating`
+//! raises the tables of an earlier version.
 //!
 //! The contract for the layers above: if the tables represent an office, a reply is the one of
-//! `office`, and the tables then represent its next office (`specs/Standing.antt`); and what a
-//! crash may leave at each exit: after a [`shift`], the office after a beginning of the commands
-//! given that holds every acknowledged one, each job at a halt with the cards and lines of one
-//! uninterrupted run in its rows ([`kept_offices_run_whole`]).
+//! `office`, and the tables then represent its next office (`office_tables` has the definition); and
+//! what a crash may leave at each exit: after a [`shift`], the office after a beginning of the
+//! commands given that holds every acknowledged one, each job at a halt with the cards and lines of
+//! one uninterrupted run in its rows ([`kept_offices_run_whole`]).
 #![tactic(auto)]
 
 mod bureau;
@@ -31,6 +32,7 @@ mod serving;
 mod shifts;
 mod submissions;
 mod summaries;
+mod working;
 
 pub use bureau::Bureau;
 pub use laws::{kept_offices_run_whole, tables_represent_one_office};
@@ -38,3 +40,4 @@ pub use ledger_tables::{Fault, OpenFault};
 pub use migrating::migrate;
 pub use outcomes::Shift;
 pub use shifts::shift;
+pub use working::Work;

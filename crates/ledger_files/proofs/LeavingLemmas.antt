@@ -30,7 +30,7 @@ use Rattle.ledger_files.specs.Unfinished.{IsLeftBy, IsRefusal, IsUnfinished, May
 use Rattle.ledger_files.specs.declared.unfinished.Unfinished.{Unfinished}
 use Rattle.ledger_files.specs.declared.unfinished.Unfinished.TheVariants as unfinished
 use Rattle.ledger_files.specs.declared.kept.Kept.TheVariants as kept
-use Rattle.ledger_files.proofs.StopLemmas.{left_holds}
+use Rattle.database_files.proofs.StopLemmas.{left_holds}
 
 -- the files hold the office in this version, with sums on their pages or without
 stored_as : (files : Image) (version : ℕ) (office : Office) (db : Trees) (held : HoldsDatabase files db) → LeftOf version db office → AreStoredWith (is_summed held.0) files (λ d. LeftOf version d office)

@@ -1,12 +1,7 @@
-pub mod ConnectingLemmas
-pub mod DamageLemmas
-pub mod FollowedLemmas
-pub mod UndamagedLemmas
 pub mod ClosingLemmas
 pub mod OpeningFinds
 pub mod OpeningLeftovers
 pub mod MigratingLemmas
-pub mod StopLemmas
 pub mod RoundLemmas
 pub mod LeavingLemmas
 pub mod MakingLemmas

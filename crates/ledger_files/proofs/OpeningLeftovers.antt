@@ -25,10 +25,10 @@ use Rattle.ledger.specs.Older.{LeftOf}
 use Rattle.office_tables.specs.Standing.{LeftAs}
 use Rattle.ledger_tables.proofs.OpeningAnswers.{known_answer}
 use Rattle.ledger_tables.specs.Versions.{IsKnown}
-use Rattle.ledger_files.proofs.ConnectingLemmas.{both}
-use Rattle.ledger_files.specs.Connecting.{IsUnconnected}
+use Rattle.database_files.proofs.ConnectingLemmas.{both}
+use Rattle.database_files.specs.Connecting.{IsOutOfReach, IsUnconnected}
 use Rattle.ledger_files.specs.Migrating.{AreNotMigrated}
-use Rattle.ledger_files.specs.Opening.{AreRefused, AreStoredWith, IsCleanKept, IsOutOfReach, LeftHolds, kept_of, store_fault}
+use Rattle.ledger_files.specs.Opening.{AreRefused, AreStoredWith, IsCleanKept, LeftHolds, kept_of, store_fault}
 
 reserved_is : (size : ℕ) → reserved size ≡ if is_summed size then 8 else 0
 reserved_is size = elim (cases_eq (size % 16) 8) [

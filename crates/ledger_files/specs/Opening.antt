@@ -15,7 +15,7 @@ use Rattle.sqlite.specs.Held.{Held}
 use Rattle.sqlite.specs.Start.{FindsIn}
 use Rattle.sqlite.specs.declared.error.Error.{Error}
 use Rattle.sqlite.specs.declared.error.Error.TheVariants.{SqliteFailure}
-use Rattle.sqlite.specs.declared.error.ErrorCode.TheVariants.{OutOfMemory, CannotOpen, DatabaseBusy}
+use Rattle.sqlite.specs.declared.error.ErrorCode.TheVariants.{OutOfMemory}
 use Rattle.sqlite_store.specs.declared.store.FileStore.{FileStore}
 use Rattle.ledger_tables.specs.Versions.{IsAnswer, IsKnown}
 use Rattle.ledger_tables.specs.declared.openings.OpenFault.{OpenFault}
@@ -25,7 +25,7 @@ use Rattle.sqlite.specs.declared.file.Leftover.{Leftover}
 use Rattle.sqlite.specs.declared.file.Leftover.TheVariants as left
 use Rattle.office.specs.Office.{Office}
 use Rattle.office_tables.specs.Standing.{LeftAs, Stands}
-use Rattle.ledger_files.specs.Connecting.{FailsToConnect}
+use Rattle.database_files.specs.Connecting.{FailsToConnect, IsOutOfReach}
 use Rattle.ledger_files.specs.declared.kept.Kept.{Kept}
 use Rattle.ledger_files.specs.declared.kept.Kept.TheVariants as kept
 
@@ -83,12 +83,6 @@ store_fault _ = Store
 abbrev pub IsAnswerFor : Image → Result ⊤ OpenFault → Type 0
 IsAnswerFor image answer =
     (db : Database) → HoldsDatabase image db.trees → IsDatabase db → IsAnswer db answer
-
--- there was no file to open, no memory, or another program has the files: these errors come of
--- files that could not be reached
-abbrev pub IsOutOfReach : Error → Type 0
-IsOutOfReach error = (error ≡ SqliteFailure CannotOpen)
-    ⊎ ((error ≡ SqliteFailure OutOfMemory) ⊎ (error ≡ SqliteFailure DatabaseBusy))
 
 -- the connection, if it is open, sees these trees, and a crash leaves no others
 pub record HoldsOnly (s : State) (db : Trees) : Type 0 where

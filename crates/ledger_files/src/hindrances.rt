@@ -4,9 +4,8 @@ ghost use Rattle.std.specs.Prelude.{◌≡◌};
 ghost use Rattle.ledger_tables.specs.declared.openings.OpenFault.TheVariants as opening;
 ghost use Rattle.ledger_files.specs.Hindrances.{IsHindranceOf, IsOfForeignFile, IsOfUnusedFile};
 
-use crate::damage::Damage;
-use crate::damaged_log::DamagedLog;
 use crate::places::{Place, beside, look};
+use database_files::{Damage, DamagedLog};
 use ledger_tables::{OpenFault, VERSION};
 use sqlite::{File, Unknown};
 use sqlite_std_file::OpenError;

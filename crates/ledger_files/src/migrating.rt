@@ -24,9 +24,9 @@ ghost use Rattle.ledger.specs.{
   Older.{LeftOf, StandsOf},
   Standing.{Stands},
 };
+ghost use Rattle.database_files.specs.Damage.{IsDamaged};
 ghost use Rattle.ledger_files.specs.{
   Closing.{StandsAlone},
-  Damage.{IsDamaged},
   Migrating.{AreNotMigrated, IsMidway, IsMigrated, IsMigration, IsVersionIn, IsVersionOf},
   Opening.{HoldsOnly, IsAnswerFor, IsCleanKept},
   Rounds.{MayLeaveClosed},
@@ -35,12 +35,12 @@ ghost use Rattle.ledger_files.specs.{
 
 use crate::closed::Closed;
 use crate::closing::close_connection;
-use crate::connecting::connect;
 use crate::kept::Kept;
 use crate::opening::handed_on;
 use crate::places::Place;
 use crate::unfinished::Unfinished;
 use crate::working::let_go;
+use database_files::connect;
 use ledger_tables::{OpenFault, VERSION};
 use sqlite::{Alter, Connection, FileFrom, FileStore, Start};
 use sqlite_disk::Disk;

@@ -15,14 +15,14 @@ ghost use Rattle.ledger.specs.{
   Adopting.{StandsStill, IsNoFaultOfTables, IsTold, handed, verdict},
   Standing.{LeftAs, Stands},
 };
+ghost use Rattle.database_files.specs.Damage.{IsDamaged};
 ghost use Rattle.ledger_files.specs.{
-  Damage.{IsDamaged},
   Opening.{AreOf, AreRefused, HoldsOnly, IsAnswerFor, IsCleanKept, IsToldOpen, kept_of, store_fault},
 };
 
 use crate::closing::connection_of;
-use crate::connecting::connect;
 use crate::kept::Kept;
+use database_files::connect;
 use ledger::Bureau;
 use ledger_tables::OpenFault;
 use sqlite::{Alter, Connection, Error, ErrorCode, FileFrom, FileStore, Leftover, Start, Unknown};

@@ -7,9 +7,8 @@ ghost use Rattle.ledger_files.specs.Places.{AreLocked, BeginsAs, path_fault};
 mod parts;
 
 use crate::closed::Closed;
-use crate::damage::is_torn;
 use crate::kept::Kept;
-use crate::undoing::{Undoing, is_headless};
+use database_files::{Undoing, is_headless, is_torn};
 use ledger_tables::OpenFault;
 pub use parts::{Part, remove_second_name};
 use sqlite::Unknown;

@@ -1,10 +1,8 @@
 //! Work with the bureau whose file is at a path: the file is opened, and closed after it.
 
 ghost use Rattle.std.specs.Prelude.{◌≡◌, ℕ, List, Option, IfOk, IfErr};
-ghost use Rattle.ledger_tables.specs.Disks.{StaysClean};
 ghost use Rattle.sqlite.specs.{Recovery.{Image}, WalFiles.{image_at}};
 ghost use Rattle.office.specs.{declared.commands.Command.{Command}, declared.replies.Reply.{Reply}};
-ghost use Rattle.ledger.specs.Working.{HasWorked};
 ghost use Rattle.ledger_files.specs.{
   Migrating.{AreNotMigrated, IsMigration},
   Opening.{AreRefused, IsCleanKept},
@@ -17,33 +15,11 @@ use crate::kept::Kept;
 use crate::places::Place;
 use crate::rounds::{finish, open_and_work};
 use crate::unfinished::Unfinished;
-use ledger::Bureau;
+use ledger::{Bureau, Work};
 use ledger_tables::OpenFault;
-use sqlite::{Alter, FileFrom, FileStore, Leftover, Start};
+use sqlite::{FileFrom, FileStore, Leftover, Start};
 use sqlite_disk::Disk;
 use std::io::Write;
-
-/// Work with an open bureau, whatever its store is. It keeps its own outcome, and may write to an
-/// output while it goes on.
-// The proof of a function that names a store in files takes many times as long as that of one over
-// any store. So the crates above name none.
-pub trait Work {
-    // What the work before and after it, and the bytes of the output before and after it, tell of
-    // the commands that were carried out, and of the replies to them.
-    ghost tells: { Self → Self → Option (List ℕ) → Option (List ℕ) → List Command → List Reply
-        → Type 0 };
-
-    /// Does the work.
-    fn carry_out<S: Alter, O: Write>(
-        &mut self,
-        rt: &HostRuntime,
-        bureau: &mut Bureau<S>,
-        output: &mut O,
-    )
-        ensures works { HasWorked S.Store bureau.old.conn bureau.new.conn bureau.new.broken
-            (tells self.old self.new (O.contents output.old) (O.contents output.new)) }
-        ensures clean { StaysClean S.Store bureau.old.conn bureau.new.conn };
-}
 
 /// Returns what is left of the files of an open that failed. The log, which had this length before,
 /// becomes what it was, while the files are locked. Where they were not reached, nothing is touched:

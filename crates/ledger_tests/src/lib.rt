@@ -1,7 +1,6 @@
 //! Tests of the bureau over disks in memory of which one fails from some call on, each call in
-//! turn: commands, shifts, and older tables that are raised; and what no program asks of it. What
-//! the built program shows is in `cases/`. How a bureau is worked on and stopped is in
-//! `ledger_trials`.
+//! turn: commands, shifts, and older tables that are raised; what no program asks of it; and what a
+//! machine is as rows. What the built program shows is in `cases/`.
 #![tactic(auto)]
 
 #[cfg(test)]
@@ -9,6 +8,10 @@ mod migrations;
 #[cfg(test)]
 mod old_tables;
 #[cfg(test)]
+mod rows;
+#[cfg(test)]
 mod stops;
+#[cfg(test)]
+mod trials;
 #[cfg(test)]
 mod unasked;

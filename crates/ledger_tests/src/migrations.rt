@@ -2,7 +2,7 @@
 //! turn. They go on as if they had never been old.
 
 use crate::old_tables::{FIRST_TABLES, made_old};
-use ledger_trials::{
+use crate::trials::{
     ALL, Ended, Failing, NONE, Step, Stops, Trial, disks_after, empty_disks, session_over,
     stop_each, told_on,
 };

@@ -1,6 +1,6 @@
 //! A bureau that is stopped at each call of a disk: single commands, and shifts.
 
-use ledger_trials::{
+use crate::trials::{
     Failing, NONE, Step, Stops, Trial, disks_after, empty_disks, stop_each, told_on,
 };
 use sqlite::Files;

@@ -1,7 +1,7 @@
 //! What no program asks of a bureau: switches and customers that no script has, calls of tables
 //! that the bureau does not make; and what a command runs of a job with a damaged row.
 
-use ledger_trials::{ALL, Ended, empty_disks, session_over, told_on};
+use crate::trials::{ALL, Ended, empty_disks, session_over, told_on};
 use std::test::Fail;
 
 /// A job with seven switches on, at both of its starts, and then all rows.

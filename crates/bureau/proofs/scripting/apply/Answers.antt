@@ -1,6 +1,7 @@
 use Rattle.std.proofs.Common.{ap}
 use Rattle.sqlite.specs.WalFiles.{image_at}
-use Rattle.bureau.specs.Work.{HasNotApplied, TellsApply}
+use Rattle.bureau_work.specs.Work.{TellsApply}
+use Rattle.bureau.specs.Work.{HasNotApplied}
 use Rattle.bureau.proofs.WorkLemmas.{ended_from}
 use Rattle.bureau.proofs.scripting.apply.Goals as goal
 

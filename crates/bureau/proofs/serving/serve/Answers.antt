@@ -1,7 +1,7 @@
 use Rattle.std.proofs.Common.{◌≡◌, ap}
 use Rattle.sqlite.specs.WalFiles.{image_at}
-use Rattle.bureau.specs.Work.{TellsServe}
-use Rattle.bureau.specs.declared.outcomes.Outcome.TheVariants as outcome
+use Rattle.bureau_work.specs.Work.{TellsServe}
+use Rattle.bureau_work.specs.declared.outcomes.Outcome.TheVariants as outcome
 use Rattle.bureau.proofs.WorkLemmas.{ended_from}
 use Rattle.bureau.proofs.serving.serve.Goals as goal
 

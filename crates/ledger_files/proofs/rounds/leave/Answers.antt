@@ -5,7 +5,7 @@ use Rattle.sqlite.specs.Tree.{Trees}
 use Rattle.sqlite.specs.Files.{HoldsDatabase, file_state}
 use Rattle.sqlite.specs.FileStore.{view}
 use Rattle.ledger_files.proofs.MigratingLemmas.{left_migration}
-use Rattle.ledger_files.proofs.StopLemmas.{left_holds}
+use Rattle.database_files.proofs.StopLemmas.{left_holds}
 use Rattle.ledger_files.proofs.rounds.leave.Goals as goal
 
 pub returns-clause-left : goal.returns-clause-left

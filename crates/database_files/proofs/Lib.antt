@@ -1,0 +1,5 @@
+pub mod ConnectingLemmas
+pub mod DamageLemmas
+pub mod FollowedLemmas
+pub mod StopLemmas
+pub mod UndamagedLemmas

@@ -1,0 +1,3 @@
+pub mod Connecting
+pub mod Damage
+pub mod Undoing

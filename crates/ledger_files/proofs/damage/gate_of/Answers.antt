@@ -1,7 +1,0 @@
-use Rattle.std.proofs.Common.{arith}
-use Rattle.sqlite_wal.specs.Recovery.{frames_len}
-use Rattle.ledger_files.proofs.damage.gate_of.Goals as goal
-
-pub returns : goal.returns
-unfolding frames_len
-returns c = grind arith
