@@ -1,5 +1,12 @@
-"""The crates of the repository, as crates.txt names them: what each uses, and how long each is."""
+"""Reads crates.txt: which crates the repository has, what each uses, and how long each is.
+
+Called with names of crates, it prints the other crates: those that none of them uses.
+
+Example: python3 tools/building/crates.py machine
+"""
+import argparse
 import os
+import sys
 
 TOP = os.path.dirname(os.path.dirname(os.path.dirname(os.path.realpath(__file__))))
 
@@ -59,3 +66,22 @@ class Crates:
     def lowest_first(self, names):
         """These crates and all that they use, lowest first."""
         return list(dict.fromkeys(it for name in names for it in [*self.below(name), name]))
+
+    def others(self, names):
+        """The crates that are neither among these nor used by them."""
+        needed = {*self.lowest_first(names)}
+        return [it for it in self.lines if it not in needed]
+
+
+def main(words):
+    parser = argparse.ArgumentParser(description=__doc__,
+                                     formatter_class=argparse.RawDescriptionHelpFormatter)
+    parser.add_argument("names", nargs="+", metavar="NAME", help="a crate")
+    names, crates = parser.parse_args(words).names, Crates()
+    for unknown in (it for it in names if it not in crates.lines):
+        parser.error(f"crates.txt has no crate {unknown}")
+    print("\n".join(crates.others(names)))
+
+
+if __name__ == "__main__":
+    main(sys.argv[1:])
