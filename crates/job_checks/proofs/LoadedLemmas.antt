@@ -15,11 +15,8 @@ use Rattle.office.specs.declared.commands.Kind.{Kind}
 use Rattle.office.specs.declared.commands.Kind.TheVariants.{Object, Autocoder}
 use Rattle.office.specs.declared.refusals.Refusal.{Refusal}
 use Rattle.office.specs.declared.refusals.Refusal.TheVariants as refusal
+use Rattle.office_tables.proofs.ReadingLemmas.{NewAreJobs}
 use Rattle.job_checks.specs.Again.{IsLoading, LoadsAs}
-
--- what is known of new jobs
-abbrev pub NewAreJobs : Type 0
-NewAreJobs = (contents : Contents) (job : Job) → job_or_refusal contents ≡ Ok job → IsDeck contents.deck → IsDeck (loaded_deck job) → IsJob job
 
 as_new : (size : Size) (contents : Contents) (job : Job) (o : Option Refusal) → job_unless_refused size contents o ≡ Ok job → job ≡ new_job size contents
 as_new size contents job (Some reason) is = absurd (let e = is in cc)

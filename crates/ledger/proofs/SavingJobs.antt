@@ -30,7 +30,7 @@ use Rattle.office.specs.Numbers.{kind_number}
 use Rattle.office_tables.specs.Standing as standing
 use Rattle.units.specs.Switches.{seven}
 use Rattle.ledger_tables.proofs.InsertLast.{name_is, name_yes, all_push}
-use Rattle.office_tables.proofs.ReadingLemmas.{picture_deck}
+use Rattle.office_tables.proofs.ReadingLemmas.{picture_deck, NewAreJobs}
 use Rattle.ledger.proofs.SavingLemmas.{at_job_same, told_of, same_tables}
 
 -- no row has the name of a job that there is not
@@ -137,10 +137,6 @@ new_can_be_kept contents job k taken is it storage =
       cards = subst (All IsPunched) (sym none.0) (λ k d less. absurd (omega (arith, less)));
       lines = subst (All IsLine) (sym none.1) (λ k d less. absurd (omega (arith, less)));
     }
-
--- what is known of new jobs
-abbrev pub NewAreJobs : Type 0
-NewAreJobs = (contents : Contents) (job : Job) → job_or_refusal contents ≡ Ok job → IsDeck contents.deck → IsDeck (loaded_deck job) → IsJob job
 
 abbrev pub KeepsDeck : Type 0
 KeepsDeck = (m : State) (count : ℕ) → (after m count).works.units.hopper.deck ≡ m.works.units.hopper.deck

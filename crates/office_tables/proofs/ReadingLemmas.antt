@@ -2,10 +2,13 @@
 use Rattle.std.proofs.Common.{◌≡◌, ◌<◌, ◌-◌, ◌%◌, ℕ, zero, suc, List, [], ◌∷◌, length, get_or, Option, Some, Result, Ok, IfOk, refl, sym, ap, subst, ◌∙◌, arith}
 use Rattle.std.specs.List.{All, AllByRecursion}
 use Rattle.std.proofs.lemmas.List.Elements.{recursion_from_All}
+use Rattle.cards.specs.Decks.{IsDeck}
 use Rattle.machine.specs.Run.{State, first_card, started, after}
 use Rattle.core_store.specs.Storage.{positions_of}
 use Rattle.machine.proofs.Steps.{length-loaded, stems_after, stems_same}
-use Rattle.office.specs.Jobs.{Job, resumed, beginning, picture, loaded_deck, HasSwitches}
+use Rattle.office.specs.Jobs.{Job, resumed, beginning, picture, loaded_deck, HasSwitches, IsJob}
+use Rattle.office.specs.New.{job_or_refusal}
+use Rattle.office.specs.declared.commands.Contents.{Contents}
 use Rattle.office.specs.declared.stretches.Stretch.{Stretch}
 use Rattle.ledger_rows.proofs.FromCellsRows.{AreTold}
 use Rattle.ledger_tables.specs.declared.rows.StretchRow.{StretchRow}
@@ -15,6 +18,10 @@ use Rattle.units.specs.Units.{nothing_made}
 use Rattle.units.specs.declared.profiles.Profile.TheVariants.{Plain}
 use Rattle.units.specs.declared.switches.Switches.{Switches}
 use Rattle.office_tables.specs.Standing.{stretch_row}
+
+-- what is known of new jobs
+abbrev pub NewAreJobs : Type 0
+NewAreJobs = (contents : Contents) (job : Job) → job_or_refusal contents ≡ Ok job → IsDeck contents.deck → IsDeck (loaded_deck job) → IsJob job
 
 -- rows of stretches tell one stretch from another
 pub stretches_told : AreTold stretch_row HasSwitches

@@ -9,7 +9,7 @@ use Rattle.ledger.proofs.BureauResults.{store_passed}
 use Rattle.ledger.proofs.ListFaults.{reads_deck}
 use Rattle.ledger.proofs.Offices.{still, if_ok_then, job_is}
 use Rattle.ledger.proofs.ReadFaults.{err_is, failed_unless, not_there, state_read}
-use Rattle.ledger.proofs.ReadingLemmas.{some_is}
+use Rattle.office_tables.proofs.ReadingLemmas.{some_is}
 use Rattle.ledger.proofs.outputs.find_carriage.Goals as goal
 
 pub returns-clause-found : goal.returns-clause-found
