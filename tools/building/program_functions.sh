@@ -19,9 +19,9 @@ is_stale() {
     [ -n "$newer" ]
 }
 
-# What a build calls. A link in the place of a closed standard error keeps files from becoming it.
+# What a build calls. If standard error is closed, /dev/null takes its place, so that no file does.
 need_tools() {
-    { : >&2; } 2>/dev/null || exec 2>/dev/null
+    (: >&2) || exec 2>/dev/null
     for tool in rt python3; do
         command -v "$tool" >/dev/null 2>&1 || case $tool in
             rt) fail 'rt, the command of the Rattle toolchain, is not on the PATH' ;;
