@@ -8,7 +8,12 @@ from sources import Unfit
 
 NAMES = ("bureau", "operator", "workbench")
 FIRST = re.compile(r"(\w+) (\d+\.\d+\.\d+) \(files of version (\d+)\)(?:[,;:] .*)?")
+# What `--version` says of its proof: of a proved program, and of a checked build.
+PROVED = re.compile(r"Rattle logic [0-9a-f]{16}")
 CHECKED = "checked build, not proved"
+# What MANIFEST says of all programs of a release, in a line `state`.
+STATES = {True: "proved", False: "not proved, for a trial"}
+ONLY = "a release contains proved programs only; ./build bureau operator workbench makes them"
 # Of what a program says, and then ends, on a processor that it was not built for: "this machine
 # lacks a feature of x86-64-v2, which this program was built for". The compiler cuts the sentence
 # into words of its own. One for any processor does not say it.
@@ -28,6 +33,14 @@ def digest(data):
     return hashlib.sha256(data).hexdigest()
 
 
+def stated(manifest):
+    """Returns whether a manifest says that the programs are proved, or None if it does not say it
+    in one line."""
+    said = re.findall(r"^state\b.*$", manifest, re.M)
+    found = [it for it, state in STATES.items() if said == [f"state      {state}"]]
+    return found[0] if found else None
+
+
 class Program:
     """One of them."""
 
@@ -43,7 +56,8 @@ class Program:
             raise Unfit(f"{self.path} --version does not begin with a line like "
                         f"`{name} 1.0.0 (files of version 4)`")
         self.version, self.file_version = said[2], said[3]
-        self.is_proved = CHECKED not in "\n".join(self.lines).lower()
+        is_checked = CHECKED in "\n".join(self.lines).lower()
+        self.is_proved = not is_checked and any(map(PROVED.fullmatch, self.lines[1:]))
         found = LACKS.search(self.data)
         # A checked build does not look at its processor.
         self.level = "not known"
@@ -57,7 +71,10 @@ class Program:
 def programs(folder):
     """The three of a folder, which are of one build."""
     found = [Program(folder, name) for name in NAMES]
-    for what in ("version", "file_version", "level", "is_proved"):
+    unproved = [it.name for it in found if not it.is_proved]
+    if len(unproved) not in (0, len(found)):
+        raise Unfit(f"in {folder} not proved: {', '.join(unproved)}; {ONLY}")
+    for what in ("version", "file_version", "level"):
         if len({getattr(it, what) for it in found}) != 1:
             raise Unfit(f"the programs in {folder} are not of one {what.replace('_', ' ')}")
     if len({tuple(it.lines[1:]) for it in found}) != 1:
