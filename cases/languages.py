@@ -8,22 +8,21 @@ import os
 import re
 import subprocess
 
+import programs
+
 ESCAPE = re.compile(rb"\\(x[0-9a-f]{2}|[crntf]|\{(.*?)\*([0-9]+)\})")
 LETTERS = {b"c": b"", b"r": b"\r", b"n": b"\n", b"t": b"\t", b"f": b"\f"}
 CARD = re.compile(r"=(?:[*]([0-9]+))?(?: (.*))?")
 INDENT = "    "
 # In the place of a line: any lines. In that of a file's bytes: any bytes.
 ANY = None
-# What a program says first where it is run by a checked build.
-UNPROVED = re.compile(rb"(?m)^(bureau|workbench|operator): not proved yet: .*\n")
-# What stands in its version in the place of the logic.
-CHECKED = b"checked build, not proved"
-VERSIONS = f"{os.path.dirname(os.path.dirname(os.path.realpath(__file__)))}/crates/command_line/src/versions.rt"
+CHECKED = programs.CHECKED.encode()
+VERSIONS = f"{programs.TOP}/crates/command_line/src/versions.rt"
 
 
 def as_proved(data):
     """What a program has made, with the logic where a checked build has none."""
-    if "UNPROVED" not in os.environ or CHECKED not in data:
+    if not programs.UNPROVED or CHECKED not in data:
         return data
     with open(VERSIONS, "rb") as file:
         return data.replace(CHECKED, re.search(rb"Rattle logic [0-9a-f]+", file.read())[0])
@@ -216,9 +215,9 @@ class Room:
             with open(self.given, "wb") as file:
                 file.write(reads)
             words = [os.fsencode(self.given) if word == b"@" else word for word in words]
-        ran = subprocess.run([program, *words], cwd=self.folder, capture_output=True, timeout=60,
-                             check=False, **how)
-        self.compare(command, as_proved(ran.stdout), UNPROVED.sub(b"", ran.stderr), ran.returncode)
+        ran = subprocess.run([program, *words], cwd=self.folder, capture_output=True,
+                             timeout=programs.within(60), check=False, **how)
+        self.compare(command, as_proved(ran.stdout), ran.stderr, ran.returncode)
         self.called = command.number
 
     def compare(self, command, output, errors=b"", status=0):

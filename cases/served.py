@@ -9,10 +9,10 @@ HERE = os.path.dirname(os.path.realpath(__file__))
 TOP = os.path.dirname(HERE)
 sys.path.insert(0, f"{TOP}/tools/trials")
 
+import programs
 from bureau_calls import asked, connected, free_port
 
-BUREAU = os.path.abspath(os.environ.get("BUREAU") or f"{TOP}/bureau")
-OPERATOR = os.path.abspath(os.environ.get("OPERATOR") or f"{TOP}/operator")
+BUREAU, OPERATOR = programs.path_of("bureau"), programs.path_of("operator")
 # Sources and decks of examples/, for jobs.
 DECKS = [("object", "two_lines.deck"), ("object", "primes.deck"), ("autocoder", "two_lines.source"),
          ("object", "copy_and_count.deck"), ("autocoder", "sales_report.source")]
@@ -20,7 +20,7 @@ DECKS = [("object", "two_lines.deck"), ("object", "primes.deck"), ("autocoder", 
 
 def operator(*words, seconds=120):
     done = subprocess.run([OPERATOR, *words], stdin=subprocess.DEVNULL, capture_output=True,
-                          encoding="utf-8", timeout=seconds, check=False)
+                          encoding="utf-8", timeout=programs.within(seconds), check=False)
     return done.returncode, done.stdout, done.stderr
 
 
