@@ -1,3 +1,4 @@
 pub mod PartLemmas
 pub mod StoredLemmas
 pub mod CodeLemmas
+pub mod WholeLemmas

@@ -1,15 +1,14 @@
 //! A source made of a storage.
 
-ghost use Rattle.std.specs.Prelude.{◌↔◌, IfOk, IsTrue};
-ghost use Rattle.autocoder_layout.specs.Source.{source_of};
-ghost use Rattle.disassembly.specs.Sources.{EndsWith, IsCodeOf};
+ghost use Rattle.std.specs.Prelude.{◌≡◌, ◌↔◌, IfOk, IsTrue};
+ghost use Rattle.disassembly.specs.Sources.{EndsWith, IsWhole};
 
 use crate::comparing::is_code;
 use crate::flows::reached;
 use crate::labels::Labels;
 use crate::pieces::{Kind, Piece, pieces_of};
 use crate::writing::Writer;
-use autocoder::{Faults, assemble};
+use autocoder::{Faults, Program, assemble};
 use autocoder_layout::Slot;
 use cards::{Card, Deck, DeckFault};
 use core_store::Core;
@@ -51,13 +50,32 @@ fn left_out(alloc: Global, pieces: &[Piece]) -> Result<Vec<u16>, AllocError> {
     Ok(positions)
 }
 
-/// Whether the source that a deck begins with is the storage's.
-fn is_code_of<C: Core>(alloc: Global, core: &C, deck: &Deck) -> Result<bool, AllocError>
-    ensures { IfOk result (λ is_whole. IsTrue is_whole ↔
-        IsCodeOf (C.cells core.now) (source_of deck.now)) }
+/// Whether a program starts at a position, and its source has this number of cards.
+fn is_begun(program: &Program, start: u16, cards: usize) -> bool
+    ensures { IsTrue result ↔ (program.now.start ≡ start) × (program.now.last ≡ cards) }
 {
+    program.start() == u32::from(start) && program.last() as usize == cards
+}
+
+/// Whether a deck that ends with data cards is a source that is the storage's and starts at this
+/// position, and has no other cards behind it.
+fn is_whole<C: Core>(
+    alloc: Global,
+    core: &C,
+    start: u16,
+    data_cards: &[Card],
+    deck: &Deck,
+) -> Result<bool, AllocError>
+    requires { EndsWith data_cards.now deck.now }
+    ensures { IfOk result (λ is_whole. IsTrue is_whole ↔
+        IsWhole (C.cells core.now) start data_cards.now deck.now) }
+{
+    let cards = deck.cards().len().saturating_sub(data_cards.len());
     match assemble(alloc, deck) {
-        Ok(program) => is_code(alloc, core, &program),
+        Ok(program) => {
+            let is_code = is_code(alloc, core, &program)?;
+            Ok(is_code && is_begun(&program, start, cards))
+        }
         Err(Faults::Source(_)) => Ok(false),
         Err(Faults::NoMemory) => Err(AllocError),
     }
@@ -91,8 +109,9 @@ fn written<C: Core>(
 /// cards behind it. What control can come to from the start, by the addresses as they stand, are
 /// instructions; all else are constants.
 ///
-/// How the source is found has no contract. The assembler assembles what was made, and the source
-/// is whole exactly if its image has the character and the mark of each position from 081 on.
+/// How the source is found has no contract. The assembler assembles what was made. The deck is whole
+/// exactly if the image of its source has the character and the mark of each position from 081 on,
+/// the source starts where it is to, and behind its END are the data cards and no other card.
 /// Fails if there is no memory, or over 2,000 cards.
 pub fn code_of<C: Core>(
     alloc: Global,
@@ -101,13 +120,13 @@ pub fn code_of<C: Core>(
     options: CodeOptions<'_>,
 ) -> Result<Code, DeckFault>
     ensures whole { IfOk result (λ code. IsTrue code.is_whole ↔
-        IsCodeOf (C.cells core.now) (source_of code.deck)) }
+        IsWhole (C.cells core.now) options.entry.start data_cards.now code.deck) }
     ensures ends { IfOk result (λ code. EndsWith data_cards.now code.deck) }
 {
     let found = reached(alloc, core, options.start, options.begun)?;
     let pieces = pieces_of(alloc, core, &found)?;
     let deck = written(alloc, core, &pieces, data_cards, options)?;
-    let is_whole = is_code_of(alloc, core, &deck)?;
+    let is_whole = is_whole(alloc, core, options.start, data_cards, &deck)?;
     let left_out = left_out(alloc, &pieces)?;
     Ok(Code {
         deck,

@@ -1,5 +1,6 @@
 use Rattle.std.proofs.Common.{sym, ap, subst, ◌∙◌, arith}
 use Rattle.core_store.specs.Storage.{blank_storage}
+use Rattle.autocoder_layout.specs.Source.{source_of}
 use Rattle.autocoder.specs.Programs.{image_for}
 use Rattle.loader.specs.Loading.{filled_with}
 use Rattle.disassembly.specs.Sources.{HaveSameCode}
@@ -12,5 +13,5 @@ returns-clause-storage c = λ s source data_cards size switches profile code e.
     subst (HaveSameCode s) (sym same) code.image.same
 
 pub returns-clause-start : goal.returns-clause-start
-returns-clause-start c = λ s source data_cards size switches profile code e.
-    ap (λ m. m.works.registers.i) (c.faultless_sources_load.ensures.loads source data_cards size switches profile code.faultless (omega (arith, e)))
+returns-clause-start c = λ s start data_cards deck size switches profile whole e.
+    ap (λ m. m.works.registers.i) (c.faultless_sources_load.ensures.loads (source_of deck) data_cards size switches profile whole.code.faultless (omega (arith, e))) ∙ whole.start_is
