@@ -38,7 +38,7 @@ pub use kept::Kept;
 pub use making::{init, is_place_free, open_new};
 pub use migrating::{Migrated, close_migrated, migrate, migrate_from};
 pub use opening::{open_connection, open_from};
-pub use places::{Part, Place, are_one_file, copy_bytes, sync, sync_folder_of};
+pub use places::{NEW_FILE_MODE, Part, Place, are_one_file, copy_bytes, sync, sync_folder_of};
 pub use rounds::{finish, leave, open_and_work, stop};
 pub use sources::{Source, find_fault};
 pub use unfinished::Unfinished;

@@ -14,7 +14,7 @@ ghost use Rattle.ledger_files.specs.Making.{AreEmpty, IsFirst, IsWithoutTables};
 use crate::closed::Closed;
 use crate::closing::close_connection;
 use crate::opening::store_fault_of;
-use crate::places::{MODE, Part, beside, is_free, remove_second_name, sync_folder_of};
+use crate::places::{NEW_FILE_MODE, Part, beside, is_free, remove_second_name, sync_folder_of};
 use ledger::Bureau;
 use ledger_tables::OpenFault;
 use sqlite::{Alter, Connection, FileFrom, FileStore, Start};
@@ -109,7 +109,7 @@ fn make<S: Start>(rt: &HostRuntime, path: &str, start: S) -> Result<Closed<FileF
     ensures first { IfOk result (IsFirst (image_at S.Start)) }
     ensures known { IfErr result IsKnown }
 {
-    let part = Part::reserve(rt, path, MODE)?;
+    let part = Part::reserve(rt, path, NEW_FILE_MODE)?;
     let made = make_part(rt, &part, path, start);
     part.remove(rt);
     made

@@ -19,7 +19,7 @@ use std::os::unix::fs::{MetadataExt, OpenOptionsExt};
 use std::{fs, io};
 
 /// Who may read and write a new file: its owner, and all others may read it.
-pub const MODE: u32 = 0o644;
+pub const NEW_FILE_MODE: u32 = 0o644;
 
 /// The first bytes of a database's file.
 const BEGINNING: [u8; 16] = *b"SQLite format 3\0";

@@ -1,16 +1,15 @@
 //! The subcommand `class`: how the jobs of a list's customers stand.
 
+use crate::class_pages::{PageFile, is_page_taken};
 use crate::clients::{ask_jobs, ask_standing};
-use crate::job_folders::write_new;
-use crate::restoring::{is_taken, publish};
 use crate::tasks::Class;
 use command_line::Status;
 use queue_rounds::{JobRow, push_page_row, push_row};
 use std::alloc::{AllocError, Global};
 use std::fs::File;
-use std::io::{ErrorKind, Write};
+use std::io::Write;
 use std::time::Duration;
-use std::{fs, io, thread};
+use std::{io, thread};
 use texts::{is_customer, read_up_to};
 
 /// The most bytes that are read of a list of customers.
@@ -49,13 +48,6 @@ const PAGE_HEADING: &str = "\
 
 /// What a page ends with.
 const PAGE_END: &str = "</tbody>\n</table>\n</div>\n</body>\n</html>\n";
-
-/// What is said where somebody else has the page's name.
-const FOREIGN: &str = "this is not the page that was written last; give the page another name";
-
-/// What is said where a page cannot be written.
-const UNWRITTEN: &str = "no page can be written there: its folder is missing or may not be written \
-                         to, or its disk is full or knows no hard links; ls -ld and df -T show which";
 
 /// What a list of customers is not.
 enum NoNames {
@@ -229,98 +221,6 @@ impl Table {
     }
 }
 
-/// What is at the path of a page.
-enum PagePlace {
-    Nothing,
-    /// The page as it was written last.
-    Own,
-    /// What somebody else put there, and what stays.
-    Foreign,
-}
-
-/// The file of a page, which is written once or again and again.
-#[derive(Drop)]
-struct PageFile<'a> {
-    path: &'a str,
-    /// What was written last.
-    last: Option<Vec<u8>>,
-}
-
-/// Whether a file has these bytes and no others.
-fn has(rt: &HostRuntime, path: &str, bytes: &[u8]) -> io::Result<bool> {
-    let most = (bytes.len() as u64).saturating_add(1);
-    let there = read_up_to(rt.alloc(), File::open(rt, path)?, most)?;
-    Ok(there.as_slice() == bytes)
-}
-
-impl<'a> PageFile<'a> {
-    /// The file of a page that is not written yet, where there is to be one.
-    fn at(path: Option<&'a str>) -> Option<PageFile<'a>> {
-        let path = path?;
-        Some(PageFile { path, last: None })
-    }
-
-    /// What is at the path now.
-    fn place(&self, rt: &HostRuntime) -> io::Result<PagePlace> {
-        let found = match fs::symlink_metadata(rt, self.path) {
-            Ok(found) => found,
-            Err(error) if error.kind() == ErrorKind::NotFound => return Ok(PagePlace::Nothing),
-            Err(error) => return Err(error),
-        };
-        match &self.last {
-            Some(last) if found.is_file() && has(rt, self.path, last)? => Ok(PagePlace::Own),
-            _ => Ok(PagePlace::Foreign),
-        }
-    }
-
-    /// Gives a page that was written under another name its own. Returns whether it has it.
-    fn publish(&self, rt: &HostRuntime, part: &str) -> io::Result<bool> {
-        match self.place(rt)? {
-            PagePlace::Nothing => publish(rt, part, self.path)?,
-            PagePlace::Own => fs::rename(rt, part, self.path)?,
-            PagePlace::Foreign => return Ok(false),
-        }
-        Ok(true)
-    }
-
-    /// Writes the page under another name, and then gives it its own. Returns whether it has it;
-    /// else nothing of it is left.
-    fn write(&mut self, rt: &HostRuntime, page: Vec<u8>) -> io::Result<bool> {
-        let path = self.path;
-        let part = format!(in rt.alloc(); "{path}.part")?;
-        let part = part.as_str();
-        let done = match write_new(rt, part, &page) {
-            Err(error) if error.kind() == ErrorKind::AlreadyExists => return Err(error),
-            Err(error) => Err(error),
-            Ok(()) => self.publish(rt, part),
-        };
-        if let Ok(true) = &done {
-            self.last = Some(page);
-            return done;
-        }
-        // What cannot be removed is told of by the next call.
-        let _ = fs::remove_file(rt, part);
-        done
-    }
-
-    /// Writes the page. Returns whether it was written; that it was not is told, and the way out.
-    fn write_or_tell<E: Write>(
-        &mut self,
-        rt: &HostRuntime,
-        page: Vec<u8>,
-        errors: &mut E,
-    ) -> io::Result<bool> {
-        let path = self.path;
-        match self.write(rt, page) {
-            Ok(true) => return Ok(true),
-            Ok(false) => writeln!(errors, "{path}: {FOREIGN}")?,
-            Err(error) if error.kind() == ErrorKind::OutOfMemory => return Err(error),
-            Err(error) => writeln!(errors, "{path}: {error}: {UNWRITTEN}")?,
-        }
-        Ok(false)
-    }
-}
-
 /// Asks for the jobs of each customer once.
 fn ask_all(rt: &HostRuntime, class: Class<'_>, names: &[&str]) -> io::Result<Table> {
     let mut table = Table::new(rt.alloc(), class.page.is_some());
@@ -366,13 +266,6 @@ fn text_of(rt: &HostRuntime, path: &str) -> io::Result<Option<String>> {
         return Ok(None);
     }
     Ok(String::from_utf8(bytes).ok())
-}
-
-/// Whether something has the name of a page or of what it is written as; then that is told.
-fn is_page_taken<E: Write>(rt: &HostRuntime, page: &str, errors: &mut E) -> io::Result<bool> {
-    let part = format!(in rt.alloc(); "{page}.part")?;
-    let is_taken_itself = is_taken(rt, page, "it is there; give the page another name", errors)?;
-    Ok(is_taken_itself || is_taken(rt, &part, "a class left it; remove it", errors)?)
 }
 
 impl Class<'_> {

@@ -48,7 +48,7 @@ fn tell_name<E: Write>(new: &str, words: &str, errors: &mut E) -> io::Result<Sta
 }
 
 /// Prints why a new file cannot be made, and the way out.
-fn tell_unmade<E: Write>(
+pub(crate) fn tell_unmade<E: Write>(
     new: &str,
     fault: OpenFault,
     words: &str,

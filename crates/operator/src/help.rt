@@ -187,7 +187,8 @@ operator restore FOLDER NEW: writes a new bureau's file with the jobs of an
 archive, handed in again.
 
 FOLDER  the folder that archive wrote the jobs' folders into
-NEW     the new file; no file of this name may be there
+NEW     the new file; no file of this name may be there, and no log or journal
+        beside it
 
 example:
   operator restore archive new.bureau
@@ -199,9 +200,10 @@ the order of the numbers. Then each job of NEW is compared with its bag. A line
 is printed for each job: that it is the same, or the first line in which its
 record differs, and whether its lines and cards are others. A job of profile 1
 is one of profile 2 then, and is told to differ. If restore is killed, NEW is
-not there; NEW.part, and what begins so beside it, may be removed. Status 1:
-something differs, or a bag is wrong and its job is not in NEW. Status 3: NEW
-could not be made or is there already.
+whole or not there; a file NEW.1.part, or one with another number, may be left
+beside it, with a log, and may be removed. Status 1: something differs, or a bag
+is wrong and its job is not in NEW. Status 3: NEW could not be made, or it, a log
+or a journal is there already.
 ";
 
 /// The text that `work --help` prints.

@@ -11,6 +11,7 @@ ghost use Rattle.std.specs.Prelude.{◌≡◌, false, IsTrue};
 mod archiving;
 mod bag_files;
 mod checking;
+mod class_pages;
 mod classes;
 mod clients;
 mod copy_faults;

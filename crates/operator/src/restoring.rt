@@ -2,23 +2,23 @@
 
 ghost use Rattle.std.specs.Prelude.{⊤};
 
-use crate::faults::tell_unopened;
-use crate::job_folders::{Place, place_at, settle};
+use crate::copy_faults::{Made, tell_copy_fault, tell_unmade};
 use crate::job_walks::{OnJob, walk_jobs};
 use crate::shelves::{Shelf, Shelved, shelf_at};
 use crate::verifying::{Verdict, differ, judge, tell_others, tell_wrong};
 use command_line::Status;
 use exchanges::{ScriptEnd, Scripted, script};
+use file_copies::{NotRestored, Restoring, restore};
 use job_archives::{Archive, files_of, flag_script, parts_of, stretch_script};
 use job_checks::{JobReport, JobRun, job_text};
 use ledger::{Bureau, Work};
-use ledger_files::{init, with_bureau};
+use ledger_files::with_bureau;
 use ledger_tables::OpenFault;
 use machine::Meter;
 use sqlite::{Alter, Unknown};
 use std::alloc::AllocError;
-use std::io::{ErrorKind, Write};
-use std::{fs, io};
+use std::io;
+use std::io::Write;
 
 /// Why the commands of a job were not all carried out.
 #[derive(Drop)]
@@ -209,15 +209,15 @@ fn hand_in_all<W: Write>(
     rt: &HostRuntime,
     folder: &str,
     shelf: &Shelf,
-    part: &str,
+    file: &str,
     output: &mut W,
-) -> io::Result<Result<usize, OpenFault>> {
+) -> Result<usize, Unrestored> {
     let mut wrong: usize = 0;
     for job in &shelf.jobs {
         match judge(rt, folder, job)? {
-            Verdict::AsItRan(run) => match hand_in(rt, part, &run) {
+            Verdict::AsItRan(run) => match hand_in(rt, file, &run) {
                 Ok(()) | Err(Unapplied::Refused) => {}
-                Err(Unapplied::File(fault)) => return Ok(Err(fault)),
+                Err(Unapplied::File(fault)) => return Err(Unrestored::File(fault)),
             },
             Verdict::Wrong(told) => {
                 wrong = wrong.saturating_add(1);
@@ -225,16 +225,16 @@ fn hand_in_all<W: Write>(
             }
         }
     }
-    Ok(Ok(wrong))
+    Ok(wrong)
 }
 
 /// Compares the jobs of the new bureau with those of the shelf.
 fn compare_all<W: Write>(
     rt: &HostRuntime,
     folder: &str,
-    part: &str,
+    file: &str,
     output: &mut W,
-) -> io::Result<Result<Counts, OpenFault>> {
+) -> Result<Counts, Unrestored> {
     let mut comparing = Comparing {
         rt,
         folder,
@@ -244,75 +244,92 @@ fn compare_all<W: Write>(
             differing: 0,
         },
     };
-    match walk_jobs(rt, part, &mut comparing)? {
-        Ok(_walked) => Ok(Ok(comparing.counts)),
-        Err(fault) => Ok(Err(fault)),
+    match walk_jobs(rt, file, &mut comparing)? {
+        Ok(_walked) => Ok(comparing.counts),
+        Err(fault) => Err(Unrestored::File(fault)),
     }
 }
 
-/// Gives the new file its name, unless something has it. Its other name is removed.
-pub(crate) fn publish(rt: &HostRuntime, part: &str, new: &str) -> io::Result<()> {
-    fs::hard_link(rt, part, new)?;
-    fs::remove_file(rt, part)?;
-    match new.rsplit_once('/') {
-        Some(("", _)) => settle(rt, "/"),
-        Some((folder, _)) => settle(rt, folder),
-        None => settle(rt, "."),
+/// Why the jobs of a shelf were not handed in and compared.
+#[derive(Drop)]
+enum Unrestored {
+    /// The shelf could not be read, or the output not be written.
+    Shelf(io::Error),
+    /// The new bureau's file could not be used, or there was no memory.
+    File(OpenFault),
+}
+
+impl From<io::Error> for Unrestored {
+    fn from(error: io::Error) -> Unrestored {
+        Unrestored::Shelf(error)
     }
 }
 
-/// Hands in the jobs of a shelf to a new bureau, compares them, and gives its file its name.
-fn restore_all<W: Write>(
-    rt: &HostRuntime,
-    folder: &str,
-    part: &str,
-    new: &str,
-    output: &mut W,
-) -> io::Result<Result<Status, OpenFault>> {
-    let shelf = shelf_at(rt, folder)?;
-    if let Err(fault) = init(rt, part, Unknown) {
-        return Ok(Err(fault));
-    }
-    let wrong = match hand_in_all(rt, folder, &shelf, part, output)? {
-        Ok(wrong) => wrong,
-        Err(fault) => return Ok(Err(fault)),
-    };
-    let counts = match compare_all(rt, folder, part, output)? {
-        Ok(counts) => counts,
-        Err(fault) => return Ok(Err(fault)),
-    };
-    tell_others(&shelf, output)?;
-    publish(rt, part, new)?;
-    let Counts { same, differing } = counts;
-    let jobs = shelf.jobs.len();
-    let differ = differ(differing);
-    writeln!(
-        output,
-        "{new}: jobs {jobs}, {same} the same, {differing} {differ}, {wrong} not restored"
-    )?;
-    output.flush()?;
-    if differing == 0 && wrong == 0 && shelf.others.is_empty() {
-        Ok(Ok(Status::Done))
-    } else {
-        Ok(Ok(Status::NotDone))
+/// What came of the jobs of a shelf.
+#[derive(Clone, Copy)]
+struct Sum {
+    /// How many there are.
+    jobs: usize,
+    /// How many were not handed in, since their bags are wrong.
+    wrong: usize,
+    /// How those that were handed in compare with their bags.
+    counts: Counts,
+    /// Whether the shelf has nothing but jobs' folders.
+    is_pure: bool,
+}
+
+/// The handing in of the jobs of a shelf, with what is printed of it.
+#[derive(Drop)]
+struct Restoration<'a, W: Write> {
+    folder: &'a str,
+    output: &'a mut W,
+}
+
+impl<W: Write> Restoring for Restoration<'_, W> {
+    type Sum = Sum;
+    type Fault = Unrestored;
+
+    ghost found_restored = { λ it sum. ⊤ };
+
+    fn restore(&mut self, rt: &HostRuntime, path: &str) -> Result<Sum, Unrestored> {
+        let shelf = shelf_at(rt, self.folder)?;
+        let wrong = hand_in_all(rt, self.folder, &shelf, path, self.output)?;
+        let counts = compare_all(rt, self.folder, path, self.output)?;
+        tell_others(&shelf, self.output)?;
+        Ok(Sum {
+            jobs: shelf.jobs.len(),
+            wrong,
+            counts,
+            is_pure: shelf.others.is_empty(),
+        })
     }
 }
 
-/// Whether something is at a path, or nothing can be; then that is told.
-pub(crate) fn is_taken<E: Write>(
-    rt: &HostRuntime,
-    path: &str,
-    words: &str,
-    errors: &mut E,
-) -> io::Result<bool> {
-    match place_at(rt, path) {
-        Ok(Place::Nothing) => return Ok(false),
-        Ok(_) => writeln!(errors, "{path}: {words}")?,
-        Err(error) if error.kind() == ErrorKind::OutOfMemory => return Err(error),
-        Err(error) => writeln!(errors, "{path}: {error}")?,
+impl Sum {
+    /// Prints it for a new file.
+    fn tell<W: Write>(self, new: &str, output: &mut W) -> io::Result<Status> {
+        let Sum {
+            jobs,
+            wrong,
+            counts: Counts { same, differing },
+            is_pure,
+        } = self;
+        let differ = differ(differing);
+        writeln!(
+            output,
+            "{new}: jobs {jobs}, {same} the same, {differing} {differ}, {wrong} not restored"
+        )?;
+        output.flush()?;
+        if differing == 0 && wrong == 0 && is_pure {
+            Ok(Status::Done)
+        } else {
+            Ok(Status::NotDone)
+        }
     }
-    Ok(true)
 }
+
+/// What is said where the jobs cannot be put into the new file.
+const UNFILLED: &str = "it cannot be filled: its disk is full or fails; df shows whether it is full";
 
 /// Hands in the jobs of a shelf to a new bureau, whose file gets its name when all of them were
 /// compared with the shelf.
@@ -323,21 +340,21 @@ pub(crate) fn restore_shelf<W: Write, E: Write>(
     output: &mut W,
     errors: &mut E,
 ) -> io::Result<Status> {
-    let part = format!(in rt.alloc(); "{new}.part")?;
-    let part = part.as_str();
-    if is_taken(
-        rt,
-        new,
-        "it is there; give the new file another name",
-        errors,
-    )? || is_taken(rt, part, "a restore left it; remove it", errors)?
-    {
-        return Ok(Status::Unusable);
-    }
-    match restore_all(rt, folder, part, new, output) {
-        Ok(Ok(status)) => Ok(status),
-        Ok(Err(fault)) => tell_unopened(rt, part, fault, errors),
-        Err(error) => {
+    let mut restoration = Restoration { folder, output };
+    match restore(rt, new, &mut restoration) {
+        Ok(sum) => sum.tell(new, output),
+        Err(NotRestored::File(fault)) => {
+            let made = Made {
+                file: folder,
+                second: folder,
+                new,
+            };
+            tell_copy_fault(rt, made, fault, &None, &None, errors)
+        }
+        Err(NotRestored::Jobs(Unrestored::File(fault))) => {
+            tell_unmade(new, fault, UNFILLED, errors)
+        }
+        Err(NotRestored::Jobs(Unrestored::Shelf(error))) => {
             writeln!(errors, "{folder}: {error}")?;
             Ok(Status::NotDone)
         }
