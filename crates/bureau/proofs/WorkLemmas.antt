@@ -36,6 +36,20 @@ module _ {D : Type 0} {g : disk.Ghosts D} (files : Image) where
         (subst (λ x. IfErr x (IsUnfinished files (Then work) (Tells work))) (sym is.1) (idle_err First (Then work) (Tells work) file f unfinished)),
   )
 
+  -- what is told of a round may be told in other words
+  pub round_so : (One Other : List Command → List Reply → Type 0) → ((cs : List Command) (rs : List Reply) → One cs rs → Other cs rs) → (file : Result (Closed D g) (Unfinished D g))
+      → IfOk file (λ closed. IsRound files (MayLeaveClosed closed) One) → IfOk file (λ closed. IsRound files (MayLeaveClosed closed) Other)
+  round_so One Other so (Ok closed) it = record { commands = it.commands; replies = it.replies; told = so it.commands it.replies it.told; link = it.link }
+  round_so One Other so (Err left) it = tt
+
+  -- .. and so of work whose files were not closed
+  pub unfinished_so : (Idle : Type 0) (One Other : List Command → List Reply → Type 0) → ((cs : List Command) (rs : List Reply) → One cs rs → Other cs rs) → (file : Result (Closed D g) (Unfinished D g))
+      → IfErr file (IsUnfinished files Idle One) → IfErr file (IsUnfinished files Idle Other)
+  unfinished_so Idle One Other so (Ok closed) it = tt
+  unfinished_so Idle One Other so (Err (unfinished.Unfound fault)) it = it
+  unfinished_so Idle One Other so (Err (unfinished.Refused fault rest)) it = it
+  unfinished_so Idle One Other so (Err (unfinished.Unclosed fault rest)) it = (it.0, it.1, so it.0 it.1 it.2, it.3)
+
   applied_with : (old new : Bytes) (own : Outcome) (file : Result (Closed D g) (Unfinished D g)) → IfOk file (λ closed. IsRound files (MayLeaveClosed closed) (TellsApply old new own))
       → IfErr file (IsUnfinished files (HasNotApplied own old new) (TellsApply old new own)) → HasApplied (with_file file own) old new
   applied_with old new own (Ok closed) round is = inr (own, inl refl, record { commands = round.commands; replies = round.replies; told = round.told })

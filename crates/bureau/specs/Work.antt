@@ -1,5 +1,5 @@
 -- what the subcommands on a bureau's file tell of the commands that were carried out
-use Rattle.std.specs.Prelude.{◌≡◌, ◌⊎◌, List, IfErr, IfOk}
+use Rattle.std.specs.Prelude.{◌≡◌, ◌⊎◌, ℕ, List, Option, IfErr, IfOk}
 use Rattle.sqlite_disk.specs.declared.Disk.{Ghosts}
 use Rattle.sqlite.specs.Recovery.{Image}
 use Rattle.ledger_files.specs.Rounds.{IsRound, MayLeaveClosed}
@@ -8,9 +8,11 @@ use Rattle.ledger_tables.specs.declared.openings.OpenFault.{OpenFault}
 use Rattle.office.specs.declared.commands.Command.{Command}
 use Rattle.office.specs.declared.replies.Reply.{Reply}
 use Rattle.bureau_work.specs.Outcomes.{closing_with}
+use Rattle.bureau_work.specs.Visits.{AreUnknown, IsMissed, IsUnknown, TellsServe}
 use Rattle.bureau_work.specs.Work.{Bytes, IsWork, TellsApply}
 use Rattle.bureau_work.specs.declared.outcomes.Outcome.{Outcome}
 use Rattle.bureau_work.specs.declared.outcomes.Outcome.TheVariants as outcome
+use Rattle.bureau_work.specs.declared.ports.Port.{Port}
 use Rattle.bureau.specs.Outcomes.{with_file}
 use Rattle.bureau.specs.declared.ended.Ended.{Ended}
 
@@ -27,6 +29,12 @@ abbrev pub HasEndedFrom : {D : Type 0} {g : Ghosts D} → Image → Ended D g �
 HasEndedFrom files ended Idle Tells =
     IfOk ended.file (λ closed. IsRound files (MayLeaveClosed closed) Tells)
     × IfErr ended.file (IsUnfinished files Idle Tells)
+
+-- the clients of a port were served, so many of them, to this outcome
+abbrev pub TellsPort : ℕ → Outcome → List Command → List Reply → Type 0
+TellsPort count own done replies = (before after : Option Port)
+    × TellsServe (λ b a. AreUnknown) (λ b a. IsMissed) (λ b a. IsUnknown) count own before after
+    done replies
 
 -- no script was applied: nothing is on the output
 abbrev pub HasNotApplied : Outcome → Bytes → Bytes → Type 0

@@ -1,5 +1,5 @@
 -- what work with a bureau tells of the commands that were carried out
-use Rattle.std.specs.Prelude.{◌≡◌, ◌⊎◌, ℕ, Bool, true, false, List, [], ◌∷◌, length, Option, Result, Ok, Err, IfErr, IfOk, string_bytes, Vec, ⊤}
+use Rattle.std.specs.Prelude.{◌≡◌, ◌⊎◌, ℕ, Bool, true, false, List, [], ◌∷◌, Option, Result, Ok, Err, IfErr, IfOk, string_bytes, Vec}
 use Rattle.std.specs.declared.alloc.Global.{Global}
 use Rattle.std.specs.List.{AllByRecursion}
 use Rattle.std.specs.Io.KnownBytes.{Keeps}
@@ -51,15 +51,6 @@ TellsApply old new own done replies =
     ⊎ ((it : Scripted) × (input : Bytes) × (between : Bytes)
     × TellsScript input old between it done replies × Keeps between new
     × ((own ≡ outcome_of it) ⊎ (own ≡ outcome.Device)))
-
--- commands were carried out, and nothing more is told of them
-abbrev pub IsSomeWork : List Command → List Reply → Type 0
-IsSomeWork done replies = ⊤
-
--- unless it ended with fault 2, each command that was carried out was replied to
-abbrev pub TellsServe : Outcome → List Command → List Reply → Type 0
-TellsServe own done replies =
-    (length replies ≡ length done) ⊎ (own ≡ outcome.Fault opening.Store)
 
 -- the command is this one on the job of this name
 abbrev pub IsOnJob : List ℕ → ℕ → JobCommand → Command → Type 0

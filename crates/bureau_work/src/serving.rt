@@ -1,77 +1,65 @@
 //! Serving requests over HTTP.
 
-ghost use Rattle.std.specs.Prelude.{◌≡◌, length};
+ghost use Rattle.std.specs.Prelude.{◌≡◌};
 ghost use Rattle.ledger_tables.specs.Disks.{StaysClean};
 ghost use Rattle.ledger.specs.Working.{HasWorked};
-ghost use Rattle.bureau_work.specs.Work.{IsSomeWork, TellsServe};
+ghost use Rattle.bureau_work.specs.Visits.{IsTurn, Serves, TellsServe};
 
-use crate::connections::{Timed, close};
+use crate::clients::Clients;
 use crate::outcomes::Outcome;
 use counter::{Exchange, Routes, exchange};
 use ledger::{Bureau, Work, kept_offices_run_whole};
 use ledger_tables::OpenFault;
 use machine::Meter;
 use sqlite::Alter;
-use std::io;
+use std::alloc::Global;
 use std::io::Write;
-use std::net::{TcpListener, TcpStream};
 
-/// The number of seconds within which a request has to come, whole.
-const REQUEST: u64 = 30;
-
-/// The number of seconds within which a client has to take its answer, whole.
-const ANSWER: u64 = 30;
-
-/// The number of seconds for which what a client sends after its request is read.
-const REST: u64 = 1;
-
-/// Serves the next connection: one request. A connection that fails is dropped.
-fn serve_next<S: Alter>(
-    rt: &HostRuntime,
+/// Serves the next client: one request.
+fn serve_next<C: Clients, S: Alter>(
+    alloc: Global,
     routes: &Routes,
     bureau: &mut Bureau<S>,
-    stream: io::Result<TcpStream>,
+    clients: &mut C,
     meter: &mut Meter,
 )
     ensures works { HasWorked S.Store bureau.old.conn bureau.new.conn bureau.new.broken
-        IsSomeWork }
+        (IsTurn C.came C.missed C.went clients.old clients.new) }
     ensures clean { StaysClean S.Store bureau.old.conn bureau.new.conn }
 {
     // A law, for the proof: it does nothing.
     kept_offices_run_whole();
-    let Ok(stream) = stream else {
+    let Some(mut visit) = clients.next() else {
         return;
     };
-    let (Ok(mut reader), Ok(mut writer)) = (
-        Timed::new(rt, &stream, REQUEST),
-        Timed::new(rt, &stream, REQUEST + ANSWER),
-    ) else {
-        return;
-    };
-    match exchange(rt.alloc(), routes, &mut reader, &mut writer, bureau, meter) {
-        Exchange::Answered { .. } => close(rt, &stream, REST),
-        Exchange::ReadFailed | Exchange::WriteFailed { .. } => {}
-    }
+    let ended = exchange(
+        alloc,
+        routes,
+        &mut visit.reader,
+        &mut visit.writer,
+        bureau,
+        meter,
+    );
+    clients.end(visit, matches!(ended, Exchange::Answered { .. }));
 }
 
-/// Serves this number of connections, one after the other.
-/// After fault 2 no more are served.
-fn serve_connections<S: Alter>(
-    rt: &HostRuntime,
+/// Serves this number of clients, one after the other. After fault 2 no more are served.
+fn serve_clients<C: Clients, S: Alter>(
+    alloc: Global,
     routes: &Routes,
     bureau: &mut Bureau<S>,
-    listener: &TcpListener,
+    clients: &mut C,
     count: u32,
 ) -> Outcome
     ensures works { HasWorked S.Store bureau.old.conn bureau.new.conn bureau.new.broken
-        (TellsServe result) }
+        (Serves C.came C.missed C.went count result clients.old clients.new) }
     ensures clean { StaysClean S.Store bureau.old.conn bureau.new.conn }
 {
     // A law, for the proof: it does nothing.
     kept_offices_run_whole();
     let mut meter = Meter::new();
-    for stream in listener.incoming().take(count as usize) {
-        serve_next(rt, routes, bureau, stream, &mut meter);
+    for _ in 0..count {
+        serve_next(alloc, routes, bureau, clients, &mut meter);
         if bureau.broken() {
             return Outcome::Fault(OpenFault::Store);
         }
@@ -79,38 +67,40 @@ fn serve_connections<S: Alter>(
     Outcome::Done
 }
 
-/// The work of serving connections that come to a port, or may not come to it.
+/// The work of serving clients.
 #[derive(Drop)]
-pub struct ServeWork {
-    /// The port, or why it cannot be listened to.
-    pub listener: io::Result<TcpListener>,
-    /// The number of connections.
+pub struct ServeWork<C: Drop> {
+    /// The clients, unless none can come.
+    pub clients: Option<C>,
+    /// The number of clients.
     pub count: u32,
     /// How the work ended.
     pub outcome: Outcome,
 }
 
-impl ServeWork {
+impl<C: Clients + Drop> ServeWork<C> {
     /// Serves them, from a bureau over any store.
-    fn serve<S: Alter>(&self, rt: &HostRuntime, bureau: &mut Bureau<S>) -> Outcome
+    fn serve<S: Alter>(&mut self, alloc: Global, bureau: &mut Bureau<S>) -> Outcome
         ensures works { HasWorked S.Store bureau.old.conn bureau.new.conn bureau.new.broken
-            (TellsServe result) }
+            (TellsServe C.came C.missed C.went self.old.count result self.old.clients
+            self.new.clients) }
         ensures clean { StaysClean S.Store bureau.old.conn bureau.new.conn }
     {
         // A law, for the proof: it does nothing.
         kept_offices_run_whole();
-        let Ok(routes) = Routes::new(rt.alloc()) else {
+        let Ok(routes) = Routes::new(alloc) else {
             return Outcome::Fault(OpenFault::NoMemory);
         };
-        match &self.listener {
-            Ok(listener) => serve_connections(rt, &routes, bureau, listener, self.count),
-            Err(_) => Outcome::Device,
+        match &mut self.clients {
+            Some(clients) => serve_clients(alloc, &routes, bureau, clients, self.count),
+            None => Outcome::Device,
         }
     }
 }
 
-impl Work for ServeWork {
-    ghost tells = { λ before after old new done replies. TellsServe after.outcome done replies };
+impl<C: Clients + Drop> Work for ServeWork<C> {
+    ghost tells = { λ before after old new. TellsServe C.came C.missed C.went before.count
+        after.outcome before.clients after.clients };
 
     fn carry_out<S: Alter, O: Write>(
         &mut self,
@@ -118,6 +108,6 @@ impl Work for ServeWork {
         bureau: &mut Bureau<S>,
         _output: &mut O,
     ) {
-        self.outcome = self.serve(rt, bureau);
+        self.outcome = self.serve(rt.alloc(), bureau);
     }
 }

@@ -1,5 +1,5 @@
 -- What was read of a script, and what its commands did.
-use Rattle.std.proofs.Common.{◌≡◌, ℕ, ◌<◌, ◌≤◌, Bool, List, None, Some, inr, refl, sym, subst, ◌∙◌, arith, length}
+use Rattle.std.proofs.Common.{◌≡◌, ℕ, ◌<◌, ◌≤◌, Bool, List, Some, inr, refl, sym, subst, arith, length}
 use Rattle.std.specs.Prelude.{◌≢◌, Option, ⊤, IsTrue}
 use Rattle.office.specs.Office.{Office}
 use Rattle.sqlite.specs.Effect.{Database}
@@ -24,13 +24,11 @@ use Rattle.exchanges.specs.Ending.{ReadAs, ReadBad}
 
 pub read_as : (remaining : Option (List ℕ)) (items now : List ℕ) (found given : List Command) → IsReadOf remaining items → now ≡ items
     → IsScriptOf now found → given ≡ found → ReadAs remaining given
-read_as None items now found given read here script same = tt
-read_as (Some input) items now found given read here script same = subst (λ b. IsScriptOf b given) (here ∙ read) (subst (IsScriptOf now) (sym same) script)
+read_as remaining items now found given read here script same = (items, read, subst (λ b. IsScriptOf b given) here (subst (IsScriptOf now) (sym same) script))
 
 pub read_bad : (remaining : Option (List ℕ)) (items now : List ℕ) (reason : ScriptFault) → IsReadOf remaining items → now ≡ items
     → IsFaultOf now reason → ReadBad remaining reason
-read_bad None items now reason read here bad = tt
-read_bad (Some input) items now reason read here bad = subst (λ b. IsFaultOf b reason) (here ∙ read) bad
+read_bad remaining items now reason read here bad = (items, read, subst (λ b. IsFaultOf b reason) here bad)
 
 abbrev IsOfBytes : ScriptFault → Type 0
 IsOfBytes fault.NoMemory = ⊥

@@ -1,6 +1,7 @@
 -- how the run of a script ended
-use Rattle.std.specs.Prelude.{◌≡◌, ◌≢◌, ◌⊎◌, ◌<◌, ℕ, false, List, [], Option, IfSome, length, take}
+use Rattle.std.specs.Prelude.{◌≡◌, ◌≢◌, ◌⊎◌, ◌<◌, ℕ, false, List, [], Option, length}
 use Rattle.office.specs.declared.commands.Command.{Command}
+use Rattle.scripts.specs.Reading.{IsReadOf}
 use Rattle.scripts.specs.Replies.{bad_line, fault_line}
 use Rattle.scripts.specs.Scripts.{IsFaultOf, IsScriptOf}
 use Rattle.scripts.specs.Sending.{WritesPart}
@@ -14,13 +15,13 @@ use Rattle.sqlite.specs.Held.{Held}
 use Rattle.sqlite_trees.specs.declared.store.Store.{Ghosts}
 use Rattle.ledger_tables.specs.declared.faults.Fault.TheVariants.{NoMemory, Store}
 
--- the bytes of the reader, or the first 4,000,001 of them, are the script of these commands
+-- the bytes that were read are the script of these commands
 abbrev pub ReadAs : Option (List ℕ) → List Command → Type 0
-ReadAs remaining commands = IfSome remaining (λ input. IsScriptOf (take 4000001 input) commands)
+ReadAs remaining commands = (text : List ℕ) × IsReadOf remaining text × IsScriptOf text commands
 
--- the bytes of the reader, or the first 4,000,001 of them, are no script, for this reason
+-- the bytes that were read are no script, for this reason
 abbrev pub ReadBad : Option (List ℕ) → ScriptFault → Type 0
-ReadBad remaining reason = IfSome remaining (λ input. IsFaultOf (take 4000001 input) reason)
+ReadBad remaining reason = (text : List ℕ) × IsReadOf remaining text × IsFaultOf text reason
 
 -- the line with the reason why the bytes are no script was written whole; or in part, and the
 -- writer failed

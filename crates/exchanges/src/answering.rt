@@ -66,7 +66,7 @@ fn carry_out<S: Alter>(
         bureau.new.broken meter.old meter.new (request.Asks command.now) result.status
         (bytes_in result.bytes) }
     ensures works { HasWorked S.Store bureau.old.conn bureau.new.conn bureau.new.broken
-        (TellsAnswer (request.Asks command.now) result.status) }
+        (TellsAnswer (request.Asks command.now) result.status (bytes_in result.bytes)) }
     ensures ended { IsTrue bureau.old.broken → (bureau.new ≡ bureau.old) × (meter.new ≡ meter.old)
         × IsOfFault Fault.Store result.status (bytes_in result.bytes) }
     ensures kept { (bureau.new.broken ≡ bureau.old.broken)
@@ -102,7 +102,7 @@ fn answer<S: Alter>(
     ensures comes { ComesInEach S.Store bureau.old.conn bureau.new.conn bureau.old.broken
         bureau.new.broken meter.old meter.new request.now result.status (bytes_in result.bytes) }
     ensures works { HasWorked S.Store bureau.old.conn bureau.new.conn bureau.new.broken
-        (TellsAnswer request.now result.status) }
+        (TellsAnswer request.now result.status (bytes_in result.bytes)) }
     ensures ended { IsTrue bureau.old.broken → (bureau.new ≡ bureau.old) × (meter.new ≡ meter.old)
         × AnswersBroken request.now result.status (bytes_in result.bytes) }
     ensures kept { (bureau.new.broken ≡ bureau.old.broken)
@@ -143,7 +143,8 @@ pub(crate) fn answer_next<R: Read, S: Alter>(
         bureau.old.broken bureau.new.broken meter.old meter.new (R.remaining reader.old)
         message.status (bytes_in message.bytes)) }
     ensures works { IfSome result (λ message. HasWorked S.Store bureau.old.conn bureau.new.conn
-        bureau.new.broken (TellsRead (R.remaining reader.old) message.status)) }
+        bureau.new.broken (TellsRead (R.remaining reader.old) message.status
+        (bytes_in message.bytes))) }
     ensures none { IfNone result ((bureau.new ≡ bureau.old) × (meter.new ≡ meter.old)) }
     ensures ended { IsTrue bureau.old.broken → (bureau.new ≡ bureau.old) × (meter.new ≡ meter.old)
         × IfSome result (λ message. ComesOfBroken (R.remaining reader.old) message.status

@@ -36,7 +36,8 @@ pub fn exchange<R: Read, W: Write, S: Alter>(
         bureau.new.broken meter.old meter.new (R.remaining reader.old) (W.contents writer.old)
         (W.contents writer.new) result }
     ensures works { HasWorked S.Store bureau.old.conn bureau.new.conn bureau.new.broken
-        (TellsExchange (R.remaining reader.old) result) }
+        (TellsExchange (R.remaining reader.old) (W.contents writer.old) (W.contents writer.new)
+        result) }
     ensures ended { IsTrue bureau.old.broken → (bureau.new ≡ bureau.old) × (meter.new ≡ meter.old)
         × EndsBroken (R.remaining reader.old) (W.contents writer.old) (W.contents writer.new)
         result }

@@ -18,5 +18,5 @@ pub returns-in-Err-clause-works : goal.returns-in-Err-clause-works
 returns-in-Err-clause-works g c =
     if_some c.unread.result _ _
     (λ message told. worked_still c.kept_offices_run_whole.ensures g.S.Store c.args.bureau.now.conn c.args.bureau.now.conn c.args.bureau.now.broken _ (λ clean o s. s)
-    (inr (refl, refl, told.1.0)))
+    (inr (refl, refl, told.1)))
     c.unread.ensures.some

@@ -26,19 +26,19 @@ returns-clause-comes g c clean =
 pub returns-in-Err-NoMemory-clause-works : goal.returns-in-Err-NoMemory-clause-works
 returns-in-Err-NoMemory-clause-works g c =
     worked_still c.kept_offices_run_whole.ensures g.S.Store c.args.bureau.now.conn c.apply.new.self.conn c.apply.new.self.broken _
-    (λ clean. c.in-Err-NoMemory.ensures.no_memory clean (ap Err c.in-Err-NoMemory.field-0-is)) (refl, inr c.fault_message.ensures.status)
+    (λ clean. c.in-Err-NoMemory.ensures.no_memory clean (ap Err c.in-Err-NoMemory.field-0-is)) (refl, inr (c.fault_message.ensures.status, c.fault_message.ensures.bytes))
 
 pub returns-in-Err-Store-clause-works : goal.returns-in-Err-Store-clause-works
 returns-in-Err-Store-clause-works g c =
     worked_doubted c.kept_offices_run_whole.ensures g.S.Store c.args.bureau.now.conn c.apply.new.self.conn c.apply.new.self.broken _ c.args.command.now
-    (c.in-Err-Store.ensures.broken (ap Err c.in-Err-Store.field-0-is)) c.in-Err-Store.ensures.crash (refl, c.fault_message-in-Err-Store.ensures.status)
+    (c.in-Err-Store.ensures.broken (ap Err c.in-Err-Store.field-0-is)) c.in-Err-Store.ensures.crash (refl, (c.fault_message-in-Err-Store.ensures.status, c.fault_message-in-Err-Store.ensures.bytes))
 
 pub returns-in-Ok-reply_to-clause-works : goal.returns-in-Ok-reply_to-clause-works
 returns-in-Ok-reply_to-clause-works g c =
     worked_one c.kept_offices_run_whole.ensures g.S.Store c.args.bureau.now.conn c.apply.new.self.conn c.apply.new.self.broken _ c.args.command.now c.in-Ok.reply
-    c.in-Ok.ensures.reply (refl, refl, inl c.status_of.ensures.status)
+    c.in-Ok.ensures.reply (refl, refl, inl (c.status_of.ensures.status, c.in-Ok-reply_to.ensures))
 
 pub returns-clause-works : goal.returns-clause-works
 returns-clause-works g c =
     worked_one c.kept_offices_run_whole.ensures g.S.Store c.args.bureau.now.conn c.apply.new.self.conn c.apply.new.self.broken _ c.args.command.now c.in-Ok.reply
-    c.in-Ok.ensures.reply (refl, refl, inr c.fault_message-in-Err.ensures.status)
+    c.in-Ok.ensures.reply (refl, refl, inr (c.fault_message-in-Err.ensures.status, c.fault_message-in-Err.ensures.bytes))

@@ -17,6 +17,9 @@ returns-in-Ok-parse-clause-end g c = inr (
   c.apply_all.ensures.meter,
 )
 
+pub returns-in-Err-NoMemory-clause-end : goal.returns-in-Err-NoMemory-clause-end
+returns-in-Err-NoMemory-clause-end g c = inl (refl, refl, (c.give_up.ensures.none, inr (inl c.give_up.ensures.end)))
+
 pub returns-in-Err-NoMemory-parse-clause-end : goal.returns-in-Err-NoMemory-parse-clause-end
 returns-in-Err-NoMemory-parse-clause-end g c =
     inl (refl, refl, (c.give_up-in-Err-NoMemory-parse.ensures.none, inr (inl c.give_up-in-Err-NoMemory-parse.ensures.end)))
@@ -88,6 +91,9 @@ returns-in-Ok-parse-clause-ended g c broken =
         now.2,
       ),
     )
+
+pub returns-in-Err-NoMemory-clause-ended : goal.returns-in-Err-NoMemory-clause-ended
+returns-in-Err-NoMemory-clause-ended g c broken = (refl, refl, inl (c.give_up.ensures.none, inr (inl c.give_up.ensures.end)))
 
 pub returns-in-Err-NoMemory-parse-clause-ended : goal.returns-in-Err-NoMemory-parse-clause-ended
 returns-in-Err-NoMemory-parse-clause-ended g c broken =
