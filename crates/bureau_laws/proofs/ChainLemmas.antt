@@ -3,7 +3,7 @@ use Rattle.std.proofs.Common.{◌≡◌, ℕ, ◌≤◌, ◌+◌, List, [], ◌�
 use Rattle.office.specs.Office.{Office, fold}
 use Rattle.office.specs.declared.commands.Command.{Command}
 use Rattle.ledger.proofs.WorkLemmas.{fold_both}
-use Rattle.bureau_laws.specs.Rounds.{Round, AreKept}
+use Rattle.bureau_laws.specs.Headline.{Round, AreKept}
 use Rattle.bureau_laws.specs.KeptRounds.{KeptRound, left_after, kept_rounds, IsChain, left_by, kept_in}
 
 -- what was kept of a round

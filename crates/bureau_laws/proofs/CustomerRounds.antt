@@ -7,7 +7,7 @@ use Rattle.std.proofs.lemmas.List.Elements.{filter-append}
 use Rattle.office.specs.Office.{Office, own, take, fold}
 use Rattle.office.specs.declared.commands.Command.{Command}
 use Rattle.office.specs.declared.replies.Reply.{Reply}
-use Rattle.bureau_laws.specs.Rounds.{Round, AreKept}
+use Rattle.bureau_laws.specs.Headline.{Round, AreKept}
 use Rattle.bureau_laws.specs.KeptRounds.{KeptRound, kept_rounds, IsChain, left_by, kept_in, Answer, answers, answers_in}
 use Rattle.bureau_laws.specs.Customers.{names, commands_of, replies_to, own_round, own_kept, own_answer, answers_to}
 use Rattle.bureau_laws.proofs.ChainLemmas.{left_is}

@@ -10,6 +10,7 @@ pub mod LineLaw
 pub mod ScriptLaw
 pub mod RefusalLaw
 pub mod RoundLaw
+pub mod TwoRoundsLaw
 pub mod ChainLemmas
 pub mod LaterRoundLaw
 pub mod CustomerRounds

@@ -1,22 +1,26 @@
 -- From link to link.
-use Rattle.std.proofs.Common.{◌≡◌, ◌⊎◌, inl, inr, ℕ, List, [], ◌∷◌, ◌++◌, take, Ok, refl, sym, subst}
+use Rattle.std.proofs.Common.{◌≡◌, ◌⊎◌, inl, inr, ℕ, List, [], ◌∷◌, ◌++◌, take, refl, sym, subst}
 use Rattle.std.proofs.Math.Logic.{∥∥₁_elim, ∥∥₁_map}
+use Rattle.std.specs.List.{AllByRecursion}
 use Rattle.sqlite.specs.Effect.{Database, IsDatabase}
 use Rattle.sqlite.specs.Files.{HoldsDatabase}
 use Rattle.sqlite.specs.Recovery.{Image}
 use Rattle.sqlite.specs.Tree.{Trees}
+use Rattle.office.specs.Jobs.{Job, HaltsBetween, RunsWhole}
 use Rattle.office.specs.Office.{Office, fold}
 use Rattle.office.specs.declared.commands.Command.{Command}
 use Rattle.ledger_tables.specs.Schema.{bureau_schema, own_version}
 use Rattle.ledger.specs.Older.{LeftOf, RowsOf, schema_of}
 use Rattle.office_tables.specs.Standing.{Rows, LeftAs}
 use Rattle.ledger_files.specs.Migrating.{AreOfVersion}
-use Rattle.ledger_files.specs.Opening.{AreOf, IsAnswerFor}
+use Rattle.ledger_files.specs.Opening.{AreOf}
 use Rattle.ledger_files.specs.Unfinished.{HoldSame}
 use Rattle.ledger.proofs.BureauVersions.{own_rows, rows_version, same_version}
+use Rattle.ledger.proofs.WholeJobsLaw.{all_halt_between}
 use Rattle.ledger.proofs.WorkLemmas.{fold_both}
 use Rattle.ledger.specs.WholeRows.{HaveWholeRows}
-use Rattle.bureau_laws.specs.Rounds.{AreWholeOf, Link, worked, migrated, refused, rounds_of, AreLinks, files_after, AreKept, AreLeftWhole, AreStillOf}
+use Rattle.bureau_laws.specs.Headline.{Link, worked, migrated, refused, rounds_of, AreKept, IsOneHistory, IsOwn, AreLinks, jobs_in}
+use Rattle.bureau_laws.specs.Rounds.{AreWholeOf, files_after, AreLeftWhole, AreStillOf}
 
 -- ---- versions of files
 
@@ -39,11 +43,11 @@ own_of : (files : Image) (o : Office) → AreOfVersion own_version files o → A
 own_of files o are = ∥∥₁_map are (λ it. let r : (db : Trees) × HoldsDatabase files db × LeftAs db o = (it.0, it.1, left_as_own own_version it.0 o refl it.2) in r)
 
 -- files of an office that were found to be of this program's version represent it in that version
-pub found_own : (files : Image) → IsAnswerFor files (Ok tt) → (version : ℕ) (o : Office) → AreOfVersion version files o → AreOf files o
+pub found_own : (files : Image) → IsOwn files → (version : ℕ) (o : Office) → AreOfVersion version files o → AreOf files o
 found_own files found version o are = ∥∥₁_map are (λ it.
     let db : Database = record { schema = schema_of version; trees = it.0 } in
     let of = rows_version version db o it.2 in
-    let own = (found db it.1 (rows_sound version db o it.2)).1 of.0 in
+    let own = found db it.1 (rows_sound version db o it.2) of.0 in
     let r : (t : Trees) × HoldsDatabase files t × LeftAs t o = (it.0, it.1, left_as_own version it.0 o (same_version db own_version version own of.1) it.2) in r)
 
 -- files that hold the same database are of the same office, in the same version
@@ -87,3 +91,16 @@ module _ (law : (db : Database) (o : Office) → Rows db o → HaveWholeRows db 
         | inr own ↦ ∣ inl (links_lead files links all.1 o own) ∣₁
       ])
   links_raise first (refused files ∷ links) all version o are = links_raise files links all.1 version o (still_of_version first files all.0 version o are)
+
+-- ---- one history
+
+-- files that are left whole are left by one history, whose jobs at a halt have run whole
+pub one_history : ((jobs : List Job) → AllByRecursion HaltsBetween jobs → AllByRecursion RunsWhole jobs)
+    → ((first : Image) (links : List Link) → AreLinks first links → (o : Office) → AreOf first o → AreLeftWhole first links o)
+    → (first : Image) (links : List Link) → AreLinks first links → (o : Office) → AreOf first o → IsOneHistory o (rounds_of links)
+one_history runs whole first links all o are =
+    ∥∥₁_elim (whole first links all o are) squash₁ (λ left.
+    let end = (fold left.0 o).0 in
+    ∥∥₁_map left.2 (λ it.
+    let r : (commands : List Command) × AreKept o (rounds_of links) commands × AllByRecursion RunsWhole (jobs_in (fold commands o).0) =
+    (left.0, left.1, runs (jobs_in end) (all_halt_between end it.2.jobs)) in r))

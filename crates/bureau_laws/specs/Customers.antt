@@ -4,7 +4,7 @@ use Rattle.office.specs.Office.{own}
 use Rattle.office.specs.declared.commands.Command.{Command}
 use Rattle.office.specs.declared.commands.Command.TheVariants.{Submit, Job as OnJob, Jobs, Queue}
 use Rattle.office.specs.declared.replies.Reply.{Reply}
-use Rattle.bureau_laws.specs.Rounds.{Round}
+use Rattle.bureau_laws.specs.Headline.{Round}
 use Rattle.bureau_laws.specs.KeptRounds.{KeptRound, Answer}
 
 -- whether a command is of this customer; the queue is asked for by the operator, of no customer

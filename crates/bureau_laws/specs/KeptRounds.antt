@@ -4,7 +4,7 @@ use Rattle.office.specs.Office.{Office, take, fold}
 use Rattle.office.specs.declared.commands.Command.{Command}
 use Rattle.office.specs.declared.replies.Reply.{Reply}
 use Rattle.office.specs.declared.replies.Reply.TheVariants.{Taken}
-use Rattle.bureau_laws.specs.Rounds.{Round, AreKept}
+use Rattle.bureau_laws.specs.Headline.{Round, AreKept}
 
 -- ---- rounds
 

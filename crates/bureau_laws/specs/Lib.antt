@@ -4,6 +4,8 @@ pub mod Same
 pub mod Statuses
 pub mod Ends
 pub mod Refusals
+pub mod Headline
 pub mod Rounds
+pub mod TwoRounds
 pub mod KeptRounds
 pub mod Replies

@@ -8,7 +8,7 @@ ghost use Rattle.office.specs.{
 ghost use Rattle.bureau_laws.specs.{
   Customers.{names, commands_of, replies_to, own_round, own_kept, answers_to},
   KeptRounds.{KeptRound, IsChain, left_by, kept_in, answers_in},
-  Rounds.{Round, AreKept},
+  Headline.{Round, AreKept},
 };
 
 /// The law of customers: the replies to a customer's commands in a list are the replies to these

@@ -3,12 +3,14 @@
 //!
 //! They are over the definitions that the program's calls are proved against.
 //!
-//! - **Stops lose nothing** ([`stops_lose_nothing`]): rounds in which a bureau's file is opened,
-//!   work is done and everything stops, any number of them, each stopped at any moment. The last
-//!   files are of the office after a beginning of the commands that were carried out in each round,
-//!   each beginning contains every command that was replied to, and the replies are that office's.
-//!   Each job at a halt there has in its rows the cards and lines of one uninterrupted run over its
-//!   whole deck, in order, none lost and none repeated. `ledger_files` proves that a file that is
+//! - **Stops lose nothing** ([`one_history`]): rounds in which a bureau's file is opened, work is
+//!   done and everything stops, any number of them, each stopped at any moment. The replies of all
+//!   rounds are those of one history. It is made of a beginning of the commands that were carried
+//!   out in each round, and contains every command that was replied to. Each job at a halt has made
+//!   the cards and lines of one uninterrupted run over its whole deck, in order, none lost and none
+//!   repeated. The last files are of the office after this history, with these cards and lines in
+//!   their rows ([`stops_lose_nothing`]); for files of an earlier version
+//!   [`old_files_wait_for_a_migration`] says what is left. `ledger_files` proves that a file that is
 //!   opened, any work with it and a stop make such a round; the program's scripts, requests and
 //!   exports are such work. The file may be migrated before and between the rounds, and everything
 //!   may stop there too. [`chains_lead_on`] says that the commands which are left are those kept of
@@ -41,7 +43,9 @@ mod asking;
 mod commands;
 mod customers;
 mod ends;
+mod headline;
 mod heads;
+mod joining;
 mod later_rounds;
 mod parts;
 mod refusals;
@@ -54,11 +58,13 @@ pub use asking::one_asking;
 pub use commands::one_script;
 pub use customers::{customers_are_apart, customers_are_apart_in_rounds};
 pub use ends::requests_end;
+pub use headline::{one_history, stops_lose_nothing};
 pub use heads::{one_head, one_refusal};
+pub use joining::two_rounds;
 pub use later_rounds::repeats_in_later_rounds;
 pub use parts::parts_keep_replies;
 pub use refusals::refusals_have_reasons;
 pub use repeats::repeats_in_any_shift;
 pub use replies::replies_are_read;
 pub use requests::one_request;
-pub use rounds::{chains_lead_on, stops_lose_nothing};
+pub use rounds::{chains_lead_on, old_files_wait_for_a_migration};

@@ -8,8 +8,8 @@ ghost use Rattle.database_files.specs.Damage.{IsDamaged};
 use sqlite::FileStore;
 use sqlite_disk::Disk;
 
-/// Proves that whatever a crash leaves of an open store, its log is not damaged. So a log that is
-/// found damaged was changed by something else.
+/// Proves that whatever a crash between two calls leaves of an open store, its log is not damaged.
+/// Of a crash within a call, after which the store is not open, it says nothing.
 pub fn stops_damage_no_log<D: Disk>(left: &FileStore<D>)
     ensures { IsTrue (view left.now).is_open → (image : Image)
         → (store.state left.now).may_leave image → ¬ IsDamaged image.log }

@@ -35,7 +35,7 @@ each : (db : Database) (office : Office) → Holds db (tables_of office) → (es
 each db office holds [] its runs = tt
 each db office holds (e ∷ es) its runs = (has_whole_rows db office holds e its.0 runs.0, each db office holds es its.1 runs.1)
 
-all_halt_between : (es : Office) → AllByRecursion (λ (e : Entry). CanBeKept e.job) es → AllByRecursion HaltsBetween (map (λ (e : Entry). e.job) es)
+pub all_halt_between : (es : Office) → AllByRecursion (λ (e : Entry). CanBeKept e.job) es → AllByRecursion HaltsBetween (map (λ (e : Entry). e.job) es)
 all_halt_between [] jobs = tt
 all_halt_between (e ∷ es) jobs = (jobs.0.job.halts, all_halt_between es jobs.1)
 
