@@ -21,7 +21,9 @@ module _ (law : (first : Image) (links : List Link) → AreLinks first links →
       let r : Round = record { given = one.commands; replies = one.replies; files = between } in
       let s : Round = record { given = two.commands; replies = two.replies; files = last } in
       let links : AreLinks first (worked r ∷ worked s ∷ []) = (
-        own_found first (one.link.opened between may), one.link.all, one.link.leads between may,
+        own_found first (one.link.opened between may),
+        one.link.all,
+        one.link.leads between may,
         (own_found between (two.link.opened last end), two.link.all, two.link.leads last end, tt),
       ) in
       ∣ (r, s, one.told, two.told, refl, refl, law first (worked r ∷ worked s ∷ []) links o are) ∣₁

@@ -105,6 +105,7 @@ impl<'a> Port<'a> {
 
 impl<'a> Clients for Port<'a> {
     type Reader = Timed<'a>;
+
     type Writer = Timed<'a>;
 
     ghost came = { λ before after asked begun. AreUnknown asked begun };

@@ -287,6 +287,7 @@ struct Restoration<'a, W: Write> {
 
 impl<W: Write> Restoring for Restoration<'_, W> {
     type Sum = Sum;
+
     type Fault = Unrestored;
 
     ghost found_restored = { λ it sum. ⊤ };
@@ -329,7 +330,8 @@ impl Sum {
 }
 
 /// What is said where the jobs cannot be put into the new file.
-const UNFILLED: &str = "it cannot be filled: its disk is full or fails; df shows whether it is full";
+const UNFILLED: &str =
+    "it cannot be filled: its disk is full or fails; df shows whether it is full";
 
 /// Hands in the jobs of a shelf to a new bureau, whose file gets its name when all of them were
 /// compared with the shelf.

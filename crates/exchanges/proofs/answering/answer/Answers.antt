@@ -13,11 +13,13 @@ returns-in-Refused-clause-works g c =
 
 pub returns-in-BadDeck-clause-works : goal.returns-in-BadDeck-clause-works
 returns-in-BadDeck-clause-works g c =
-    worked_still c.kept_offices_run_whole.ensures g.S.Store c.args.bureau.now.conn c.args.bureau.now.conn c.args.bureau.now.broken _ (λ clean o s. s)
-    (refl, elim c.bad_deck.ensures [
-      | inl is ↦ inl (ap asked_by c.in-BadDeck.is, subst (λ r. IsAnswer r [] c.bad_deck.result.status (bytes_in c.bad_deck.result.bytes)) (sym c.in-BadDeck.is) is)
-      | inr of ↦ inr of
-    ])
+    worked_still c.kept_offices_run_whole.ensures g.S.Store c.args.bureau.now.conn c.args.bureau.now.conn c.args.bureau.now.broken _ (λ clean o s. s) (
+      refl,
+      elim c.bad_deck.ensures [
+        | inl is ↦ inl (ap asked_by c.in-BadDeck.is, subst (λ r. IsAnswer r [] c.bad_deck.result.status (bytes_in c.bad_deck.result.bytes)) (sym c.in-BadDeck.is) is)
+        | inr of ↦ inr of
+      ],
+    )
 
 pub returns-in-Asks-clause-comes : goal.returns-in-Asks-clause-comes
 returns-in-Asks-clause-comes g c clean office s =
