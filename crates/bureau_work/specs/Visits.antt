@@ -36,8 +36,8 @@ module _ {C : Type 0} (Came : C → C → Bytes → Bytes → Type 0) (Missed : 
       × (done ≡ first ++ second) × (replies ≡ some ++ more)
       × AreTurns count before mid first some × IsTurn mid after second more
 
-  -- this number of turns was taken, or fewer if there was no memory or fault 2 came; unless fault 2
-  -- came, each command that was carried out was replied to
+  -- turns were taken, and if all was done, as many as this number; unless fault 2 came, each
+  -- command that was carried out was replied to
   pub record Serves (count : ℕ) (own : Outcome) (before after : C) (done : List Command)
       (replies : List Reply) : Type 0 where
     pub turns : ℕ
